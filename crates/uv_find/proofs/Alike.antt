@@ -117,6 +117,12 @@ worker_goes p n s t k (Refuses why) (Moves b other) one two h = absurd h
 
 -- ---- what holds of each spot
 
+-- the state is regular, as is each that an event leads to, and no brief event takes the clock to its limit
+pub record IsGoing (p : Program) (n : ℕ) (q : Place) : Type 0 where
+  pub regular : IsRegular p q.state
+  pub fits : (e : Event) → is_brief (Some n) e ≡ true → ClockFits q.state e
+  pub leads : (e : Event) → GoesRegular p (next p q.state e)
+
 pub are_regular : (p : Program) (es : List Event) → AreDeclared p → IsShort LONG p → LONGEST < (arena_size p).last_generation → length es ≤ LONGEST
     → IsRegular p (after p es)
 are_regular p es declares short lasts few = record {
@@ -157,6 +163,19 @@ module _ (r : Rules) (n : ℕ) (forget : r.forget ≡ Some n) (can : CanForget r
   spot_fits s (Cancel v) is short = tt
   spot_fits s (Send v) is short = tt
   spot_fits s (Io v) is short = tt
+
+  -- a step from a place leads to what is regular
+  leads_regular : (w : Spot) → IsSpot r w → (e : Event) → GoesRegular r.program (next r.program w.place.state e)
+  leads_regular w is e = by (next r.program w.place.state e) refl where
+    by : (x : Next) → next r.program w.place.state e ≡ x → GoesRegular r.program x
+    by (Refuses why) goes = tt
+    by (Moves u line) goes =
+        let few = few_steps w is in
+        let long = length_more w.steps e in
+        regular_by u (w.steps ++ e ∷ []) (state_behind r w e u line is goes) (omega (arith, few, long))
+
+  pub spot_going : (s : Spot) → IsSpot r s → IsGoing r.program n s.place
+  spot_going s is = record { regular = spot_regular s is; fits = λ e. spot_fits s e is; leads = leads_regular s is }
 
   -- ---- what is read
 
@@ -242,21 +261,21 @@ module _ (r : Rules) (n : ℕ) (forget : r.forget ≡ Some n) (can : CanForget r
 
   -- ---- what is offered
 
-  module _ (s t : Spot) (hs : IsSpot r s) (ht : IsSpot r t) (alike : AreAlike r n s.place t.place) where
+  module _ (s t : Place) (hs : IsGoing r.program n s) (ht : IsGoing r.program n t) (alike : AreAlike r n s t) where
     abbrev a : State
-    a = s.place.state
+    a = s.state
 
     abbrev b : State
-    b = t.place.state
+    b = t.state
 
     abbrev k : Kept
-    k = s.place.kept
+    k = s.kept
 
     abbrev l : Kept
-    l = t.place.kept
+    l = t.kept
 
     same_read : {X : Type 0} (R : State → X) → Reads n R → R a ≡ R b
-    same_read R reads = both a b (spot_regular s hs) (spot_regular t ht) alike.state R reads
+    same_read R reads = both a b hs.regular ht.regular alike.state R reads
 
     blocked_by : (x y : Next) → NextGoes r.program n a b x y → refused_as_blocked x ≡ refused_as_blocked y
     blocked_by (Moves u line) (Moves v other) h = refl
@@ -264,40 +283,30 @@ module _ (r : Rules) (n : ℕ) (forget : r.forget ≡ Some n) (can : CanForget r
     blocked_by (Moves u line) (Refuses other) h = absurd h
     blocked_by (Refuses why) (Moves v other) h = absurd h
 
-    -- a step from a place leads to what is regular
-    leads_regular : (w : Spot) → IsSpot r w → (e : Event) → GoesRegular r.program (next r.program w.place.state e)
-    leads_regular w is e = by (next r.program w.place.state e) refl where
-      by : (x : Next) → next r.program w.place.state e ≡ x → GoesRegular r.program x
-      by (Refuses why) goes = tt
-      by (Moves u line) goes =
-          let few = few_steps w is in
-          let long = length_more w.steps e in
-          regular_by u (w.steps ++ e ∷ []) (state_behind r w e u line is goes) (omega (arith, few, long))
-
     -- events that do alike lead on alike
     pub goes_alike : (e f : Event) → EventsAlike r.program n a b e f → is_brief (Some n) e ≡ true
         → NextGoes r.program n a b (next r.program a e) (next r.program b f)
     goes_alike e f (inl h) short =
-        let ra = spot_regular s hs in
-        let rb = spot_regular t ht in
+        let ra = hs.regular in
+        let rb = ht.regular in
         subst (λ g. NextGoes r.program n a b (next r.program a e) (next r.program b g)) h.0
-        (others_go r.program n a b (next r.program a e) (next r.program b e) (leads_regular s hs e) (leads_regular t ht e)
-        (laws.others_alike r.program n a b can.before ra rb alike.state e h.1 (spot_fits s e hs short) (spot_fits t e ht short)))
+        (others_go r.program n a b (next r.program a e) (next r.program b e) (hs.leads e) (ht.leads e)
+        (laws.others_alike r.program n a b can.before ra rb alike.state e h.1 (hs.fits e short) (ht.fits e short)))
     goes_alike e f (inr (inl h)) short =
-        let ra = spot_regular s hs in
-        let rb = spot_regular t ht in
+        let ra = hs.regular in
+        let rb = ht.regular in
         subst (λ x. NextGoes r.program n a b (next r.program a x) (next r.program b f)) (sym h.one)
         (subst (λ y. NextGoes r.program n a b (next r.program a (Take h.worker)) (next r.program b y)) (sym h.two)
         (worker_goes r.program n a b h.other (next r.program a (Take h.worker)) (next r.program b (Take h.other))
-        (leads_regular s hs (Take h.worker)) (leads_regular t ht (Take h.other))
+        (hs.leads (Take h.worker)) (ht.leads (Take h.other))
         (laws.takes_alike r.program n a b can.before ra rb alike.state h.worker h.other h.same)))
     goes_alike e f (inr (inr h)) short =
-        let ra = spot_regular s hs in
-        let rb = spot_regular t ht in
+        let ra = hs.regular in
+        let rb = ht.regular in
         subst (λ x. NextGoes r.program n a b (next r.program a x) (next r.program b f)) (sym h.one)
         (subst (λ y. NextGoes r.program n a b (next r.program a (Finish h.worker)) (next r.program b y)) (sym h.two)
         (worker_goes r.program n a b h.other (next r.program a (Finish h.worker)) (next r.program b (Finish h.other))
-        (leads_regular s hs (Finish h.worker)) (leads_regular t ht (Finish h.other))
+        (hs.leads (Finish h.worker)) (ht.leads (Finish h.other))
         (laws.finishes_alike r.program n a b can.before ra rb alike.state h.worker h.other h.same)))
 
     pub blocked_alike : is_blocked r.program a ≡ is_blocked r.program b
@@ -324,7 +333,7 @@ module _ (r : Rules) (n : ℕ) (forget : r.forget ≡ Some n) (can : CanForget r
 
     step_alike : (e : Event) → step_of a k e ≡ step_of b l e
     step_alike e =
-        let made = made_alike a b (spot_regular s hs) (spot_regular t ht) alike.state (aim e) in
+        let made = made_alike a b hs.regular ht.regular alike.state (aim e) in
         let free = free_alike e in
         let spent = spending_alike e in
         λ i. if made i && free i then Some (spent i) else None
@@ -362,7 +371,7 @@ module _ (r : Rules) (n : ℕ) (forget : r.forget ≡ Some n) (can : CanForget r
     -- ---- ranks
 
     takes_both : OffersAlike r.program n a b (take_by (idle_worker a)) (take_by (idle_worker b))
-    takes_both = takes_alike n r.program a b (spot_regular s hs) (spot_regular t ht) alike.state
+    takes_both = takes_alike n r.program a b hs.regular ht.regular alike.state
 
     take_same : (u : State) (o : Option ℕ) → ranked (Some n) u (take_by o) ≡ take_by o
     take_same u None = refl
@@ -402,7 +411,7 @@ module _ (r : Rules) (n : ℕ) (forget : r.forget ≡ Some n) (can : CanForget r
 
     stepped : (e : Event) → is_common (offers.Step e) ≡ true
         → OffersAlike r.program n a b (ranked (Some n) a (step_of a k e)) (ranked (Some n) b (step_of b l e))
-    stepped (Finish rank) h = finishes_alike n r.program a b (spot_regular s hs) (spot_regular t ht) alike.state rank
+    stepped (Finish rank) h = finishes_alike n r.program a b hs.regular ht.regular alike.state rank
     stepped (Take worker) h = absurd (let g : false ≡ true = h in cc)
     stepped Loop h = other_step Loop refl
     stepped (Cancel v) h = other_step (Cancel v) refl
@@ -462,7 +471,7 @@ module _ (r : Rules) (n : ℕ) (forget : r.forget ≡ Some n) (can : CanForget r
     unbounded clock (Some e) = refl
 
     pub offered_alike : (offered : Option Offered) (x : Option Left) → ((o : Offered) → offered ≡ Some o → is_common o.offer ≡ true) →
-        OffersAlike r.program n a b (offered_by r s.place offered x) (offered_by r t.place offered x)
+        OffersAlike r.program n a b (offered_by r s offered x) (offered_by r t offered x)
     offered_alike None x common = tt
     offered_alike (Some o) None common = tt
     offered_alike (Some o) (Some x) common =

@@ -58,7 +58,7 @@ one_more : (n : ℕ) → nat_le (suc n) 0 ≡ false
 one_more n = grind (arith, nat_tests)
 
 -- each of the first offers may be taken at will
-will_of : (n : ℕ) (xs : List Left) (i : ℕ) → are_at_will n xs ≡ true → i < n → slice_get xs i ≡ Some left.AtWill
+pub will_of : (n : ℕ) (xs : List Left) (i : ℕ) → are_at_will n xs ≡ true → i < n → slice_get xs i ≡ Some left.AtWill
 will_of zero xs i all below = absurd (omega (arith, below))
 will_of (suc n) [] i all below =
     let f : false ≡ true = sym (one_more n) ∙ (and_parts (nat_le (suc n) 0) true all).0 in absurd (let g : ⊥ = cc in g)
@@ -78,15 +78,15 @@ wills_are (suc n) (x ∷ xs) each =
     let parts = and_parts (nat_le n (length xs)) _ rest in
     ap₂ (λ a b. a && b) (one_less n (length xs) ∙ parts.0) (ap₂ (λ a b. a && b) (ap is_at_will (each 0 (omega arith))) parts.1)
 
-wills_stay : (n : ℕ) (xs : List Left) (i : ℕ) → are_at_will n xs ≡ true → are_at_will n (lessened xs i) ≡ true
+pub wills_stay : (n : ℕ) (xs : List Left) (i : ℕ) → are_at_will n xs ≡ true → are_at_will n (lessened xs i) ≡ true
 wills_stay n xs i all = wills_are n (lessened xs i) (λ j below. at_will_kept xs j i (will_of n xs j all below))
 
-not_less : (k n : ℕ) → nat_lt k n ≡ false → n ≤ k
+pub not_less : (k n : ℕ) → nat_lt k n ≡ false → n ≤ k
 not_less k n large = grind (arith, nat_tests)
 
 -- ---- what is offered
 
-untimed : (clock : ℕ) (o : Option Event) → timed None clock o ≡ o
+pub untimed : (clock : ℕ) (o : Option Event) → timed None clock o ≡ o
 untimed clock None = refl
 untimed clock (Some e) = refl
 
@@ -94,7 +94,7 @@ take_brief : (forget : Option ℕ) (worker : ℕ) → is_brief forget (Take work
 take_brief None worker = refl
 take_brief (Some n) worker = refl
 
-due_same : (q : Question) (clock due : ℕ) → DueAlike q clock due clock due
+pub due_same : (q : Question) (clock due : ℕ) → DueAlike q clock due clock due
 due_same (asks.Late name ms) clock due = refl
 due_same (asks.Call which name call) clock due = refl
 due_same (asks.Code code name) clock due = refl
@@ -226,7 +226,7 @@ take_apart : (r : Rules) (s : Spot) → r.at_once ≡ true → is_take_first r s
 take_apart r s now is =
     ap (λ b. if 0 == loop_number b then is_loop_first r s.place else ((0 == 0) && is_take_first r s.place)) now ∙ is
 
-spot_is_in : (r : Rules) (q : Spot) (f : Led) → is_few r.forget (length q.steps + 1) ≡ true
+pub spot_is_in : (r : Rules) (q : Spot) (f : Led) → is_few r.forget (length q.steps + 1) ≡ true
     → spot_of r q (Some f) ≡ Some (after_event q f, answers r q.place f)
 spot_is_in r q f short = ap (λ c. if◌then◌else◌ {A = Option (Spot × Bool)} c (Some (after_event q f, answers r q.place f)) None) short
 
@@ -235,13 +235,13 @@ module _ (r : Rules) (can : CanTakeAtOnce r) (may : CanForget r can.counted) whe
       → spot_of r q (Some f) ≡ Some (after_event q f, answers r q.place f)
   spot_is q f short = spot_is_in r q f short
 
-  count_is : (p : Place) → move_count r p ≡ length r.offers
+  pub count_is : (p : Place) → move_count r p ≡ length r.offers
   count_is p = ap (λ d. move_count_by d (length r.offers) (length p.left)) may.differ
 
-  below_count : (p : Place) (i : ℕ) (o : Offered) → slice_get r.offers i ≡ Some o → nat_lt i (move_count r p) ≡ true
+  pub below_count : (p : Place) (i : ℕ) (o : Offered) → slice_get r.offers i ≡ Some o → nat_lt i (move_count r p) ≡ true
   below_count p i o is = ap (nat_lt i) (count_is p) ∙ get_within r.offers i o is
 
-  given : (p : Place) (i : ℕ) (o : Offered) → slice_get r.offers i ≡ Some o → event_at r p i ≡ offered_by r p (Some o) (slice_get p.left i)
+  pub given : (p : Place) (i : ℕ) (o : Offered) → slice_get r.offers i ≡ Some o → event_at r p i ≡ offered_by r p (Some o) (slice_get p.left i)
   given p i o is =
       ap (λ b. if b then offered_by r p (slice_get r.offers i) (slice_get p.left i) else None) (below_count p i o is)
       ∙ ap (λ x. offered_by r p x (slice_get p.left i)) is
@@ -253,10 +253,10 @@ module _ (r : Rules) (can : CanTakeAtOnce r) (may : CanForget r can.counted) whe
       ∙ ap (λ c. brief (Some can.counted) (ranked (Some can.counted) p.state (timed c p.state.clock o))) may.clock
       ∙ ap (λ x. brief (Some can.counted) (ranked (Some can.counted) p.state x)) (untimed p.state.clock o)
 
-  abbrev shown : Place → Offer → Option Event
+  abbrev pub shown : Place → Offer → Option Event
   shown p offer = brief (Some can.counted) (ranked (Some can.counted) p.state (event_of r.program p.state p.kept offer))
 
-  at_will_is : (p : Place) (i : ℕ) (offer : Offer) → slice_get r.offers i ≡ Some (at_will offer) → slice_get p.left i ≡ Some left.AtWill
+  pub at_will_is : (p : Place) (i : ℕ) (offer : Offer) → slice_get r.offers i ≡ Some (at_will offer) → slice_get p.left i ≡ Some left.AtWill
       → event_at r p i ≡ shown p offer
   at_will_is p i offer is will =
       given p i (at_will offer) is ∙ ap (offered_by r p (Some (at_will offer))) will ∙ plain p (event_of r.program p.state p.kept offer)
@@ -264,7 +264,7 @@ module _ (r : Rules) (can : CanTakeAtOnce r) (may : CanForget r can.counted) whe
   take_shown : (p : Place) (w : ℕ) → idle_worker p.state ≡ Some w → shown p offers.Take ≡ Some (Take w)
   take_shown p w idle = ap (λ o. brief (Some can.counted) (ranked (Some can.counted) p.state (take_by o))) idle
 
-  take_is : (p : Place) (e : Event) → shown p offers.Take ≡ Some e → (w : ℕ) × (idle_worker p.state ≡ Some w) × (e ≡ Take w)
+  pub take_is : (p : Place) (e : Event) → shown p offers.Take ≡ Some e → (w : ℕ) × (idle_worker p.state ≡ Some w) × (e ≡ Take w)
   take_is p e h = by (idle_worker p.state) refl h where
     by : (o : Option ℕ) → idle_worker p.state ≡ o → brief (Some can.counted) (ranked (Some can.counted) p.state (take_by o)) ≡ Some e
         → (w : ℕ) × (idle_worker p.state ≡ Some w) × (e ≡ Take w)
@@ -275,10 +275,10 @@ module _ (r : Rules) (can : CanTakeAtOnce r) (may : CanForget r can.counted) whe
   loop_shown p idle =
       ap (λ b. brief (Some can.counted) (ranked (Some can.counted) p.state (Some (if b then Tick p.kept.owed else Loop)))) idle
 
-  finish_shown : (p : Place) (k j : ℕ) → runner p.state k ≡ Some j → shown p (offers.Step (Finish k)) ≡ Some (Finish j)
+  pub finish_shown : (p : Place) (k j : ℕ) → runner p.state k ≡ Some j → shown p (offers.Step (Finish k)) ≡ Some (Finish j)
   finish_shown p k j is = ap (λ o. brief (Some can.counted) (finish_by o)) is
 
-  finish_is : (p : Place) (k : ℕ) (e : Event) → shown p (offers.Step (Finish k)) ≡ Some e → (j : ℕ) × (e ≡ Finish j)
+  pub finish_is : (p : Place) (k : ℕ) (e : Event) → shown p (offers.Step (Finish k)) ≡ Some e → (j : ℕ) × (e ≡ Finish j)
   finish_is p k e h = by (runner p.state k) h where
     by : (o : Option ℕ) → brief (Some can.counted) (finish_by o) ≡ Some e → (j : ℕ) × (e ≡ Finish j)
     by None g = absurd (none-some e g)

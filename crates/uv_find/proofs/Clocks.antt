@@ -27,7 +27,7 @@ use Rattle.uv_order.specs.Documented.Goes.{main_line, run, section, poll, ends, 
 use Rattle.uv_find.specs.Forgetting.{LONG}
 use Rattle.uv_find.specs.Orders.{is_brief}
 use Rattle.uv_find.specs.Spots.{AreBrief}
-use Rattle.uv_order.proofs.Documents.{Holds, HoldsNext, holds_after, holds_fresh, holds_next}
+use Rattle.uv_order.proofs.Documents.{Holds, HoldsNext, holds_fresh, holds_next}
 
 -- the ms that the clock goes on by, as a line says
 abbrev pub ms_of : Seen → ℕ

@@ -1,6 +1,5 @@
 -- What a place does, one that has the same key does as well: it leads by each move to one of the same key, and answers alike.
 use Rattle.std.proofs.Common.{◌≡◌, inl, inr, ℕ, zero, suc, ◌+◌, ◌-◌, ◌<◌, ◌&&◌, Bool, true, false, List, [], ◌∷◌, ◌++◌, length, nat_lt, is_none, slice_get, refl, sym, ap, ap₂, subst, ◌∙◌, Option, Some, None, if◌then◌else◌, arith}
-use Rattle.std.proofs.lemmas.Bool.{ltb-true}
 use Rattle.std.proofs.lemmas.Option.{none-some}
 use Rattle.uv_ids.specs.declared.event.Event.{Event}
 use Rattle.uv_ids.specs.declared.event.Event.TheVariants.{Take}
@@ -22,8 +21,8 @@ use Rattle.uv_find.specs.Kept.{along_after}
 use Rattle.uv_find.specs.Orders.{Rules, Place, Choice, Led, led, led_by, placed, chosen, lessened, offered_by, is_brief, move_count, move_count_by, taken, reached, is_within}
 use Rattle.uv_find.specs.Questions.{answers, place_answers, none_leads, has_ended}
 use Rattle.uv_find.specs.Spots.{Spot, spot_of, next_spot, told_due, told, Told, left_code, kept_code, place_code, spot_code, CanForget, IsSpot, IsStanding, is_few}
-use Rattle.uv_find.proofs.Alike.{GoesAlike, NextGoes, regular_by, spot_regular, AreAlike, DueAlike, kept_due_alike, within_alike, goes_alike, blocked_alike, offered_alike, both}
-use Rattle.uv_find.proofs.Led.{each, event_at, choice_is, length_more, led_leads, leads_spot, state_behind, offered_brief}
+use Rattle.uv_find.proofs.Alike.{GoesAlike, GoesRegular, NextGoes, IsGoing, spot_going, AreAlike, DueAlike, kept_due_alike, within_alike, goes_alike, blocked_alike, offered_alike, both}
+use Rattle.uv_find.proofs.Led.{each, event_at, choice_is, led_leads, leads_spot, offered_brief}
 use Rattle.uv_find.proofs.Onward.{owed_alike, along_alike, uncalled_alike, line_alike}
 use Rattle.uv_find.proofs.Lines.{LinesAlike}
 use Rattle.uv_find.proofs.Readings.{reads_ended}
@@ -50,15 +49,15 @@ module _ (r : Rules) (n : ℕ) (forget : r.forget ≡ Some n) (can : CanForget r
 
   -- ---- where it leads
 
-  record LeadsAlike (s t : Spot) (x y : Led) : Type 0 where
-    places : AreAlike r n x.place y.place
-    regular : IsRegular r.program x.place.state
-    other : IsRegular r.program y.place.state
-    lines : LinesAlike r.program x.line y.line
-    timers : calls_timer x.place.state x.line ≡ calls_timer y.place.state y.line
-    dues : DueAlike r.question x.place.state.clock s.place.kept.due y.place.state.clock t.place.kept.due
+  pub record LeadsAlike (s t : Place) (x y : Led) : Type 0 where
+    pub places : AreAlike r n x.place y.place
+    pub regular : IsRegular r.program x.place.state
+    pub other : IsRegular r.program y.place.state
+    pub lines : LinesAlike r.program x.line y.line
+    pub timers : calls_timer x.place.state x.line ≡ calls_timer y.place.state y.line
+    pub dues : DueAlike r.question x.place.state.clock s.kept.due y.place.state.clock t.kept.due
 
-  abbrev LedAlike : Spot → Spot → Option Led → Option Led → Type 0
+  abbrev pub LedAlike : Place → Place → Option Led → Option Led → Type 0
   LedAlike s t None None = Unit {0}
   LedAlike s t (Some x) (Some y) = LeadsAlike s t x y
   LedAlike s t x y = ⊥
@@ -74,68 +73,64 @@ module _ (r : Rules) (n : ℕ) (forget : r.forget ≡ Some n) (can : CanForget r
   due_goes (asks.Before name other) a b u v d e h k = h
   due_goes (asks.Behind name other) a b u v d e h k = h
 
-  module _ (s t : Spot) (hs : IsSpot r s) (ht : IsSpot r t) (alike : AreAlike r n s.place t.place) where
-    events_alike : (number : ℕ) → OffersAlike r.program n s.place.state t.place.state (event_at r s.place number) (event_at r t.place number)
+  module _ (s t : Place) (hs : IsGoing r.program n s) (ht : IsGoing r.program n t) (alike : AreAlike r n s t) where
+    events_alike : (number : ℕ) → OffersAlike r.program n s.state t.state (event_at r s number) (event_at r t number)
     events_alike number =
-        subst (λ (xs : List Left). OffersAlike r.program n s.place.state t.place.state (event_at r s.place number)
+        subst (λ (xs : List Left). OffersAlike r.program n s.state t.state (event_at r s number)
         (if nat_lt number (move_count_by r.differ (length r.offers) (length xs))
-        then offered_by r t.place (slice_get r.offers number) (slice_get xs number) else None)) alike.left
-        (by (nat_lt number (move_count r s.place)))
+        then offered_by r t (slice_get r.offers number) (slice_get xs number) else None)) alike.left
+        (by (nat_lt number (move_count r s)))
       where
-        by : (b : Bool) → OffersAlike r.program n s.place.state t.place.state
-            (if b then offered_by r s.place (slice_get r.offers number) (slice_get s.place.left number) else None)
-            (if b then offered_by r t.place (slice_get r.offers number) (slice_get s.place.left number) else None)
-        by true = offered_alike r n forget can s t hs ht alike (slice_get r.offers number) (slice_get s.place.left number)
+        by : (b : Bool) → OffersAlike r.program n s.state t.state
+            (if b then offered_by r s (slice_get r.offers number) (slice_get s.left number) else None)
+            (if b then offered_by r t (slice_get r.offers number) (slice_get s.left number) else None)
+        by true = offered_alike r n forget can s t hs ht alike (slice_get r.offers number) (slice_get s.left number)
             (λ (o : Offered) (is : slice_get r.offers number ≡ Some o). each (λ (x : Offered). is_common x.offer) r.offers number o can.aside is)
         by false = tt
 
-    module _ (number : ℕ) (e f : Event) (does : EventsAlike r.program n s.place.state t.place.state e f) (brief : is_brief (Some n) e ≡ true) where
+    module _ (number : ℕ) (e f : Event) (does : EventsAlike r.program n s.state t.state e f) (brief : is_brief (Some n) e ≡ true) where
       abbrev c : Choice
-      c = record { event = e; left = lessened s.place.left number; kept = s.place.kept }
+      c = record { event = e; left = lessened s.left number; kept = s.kept }
 
       abbrev d : Choice
-      d = record { event = f; left = lessened t.place.left number; kept = t.place.kept }
+      d = record { event = f; left = lessened t.left number; kept = t.kept }
 
-      behind : (w : Spot) (hw : IsSpot r w) (g : Event) (u : State) (line : Option Seen) → next r.program w.place.state g ≡ Moves u line
+      behind : (w : Place) (hw : IsGoing r.program n w) (g : Event) (u : State) (line : Option Seen) → next r.program w.state g ≡ Moves u line
           → IsRegular r.program u
-      behind w hw g u line goes =
-          let few : length w.steps < LONGEST =
-          ltb-true (length w.steps) LONGEST (subst (λ (o : Option ℕ). is_few o (length w.steps) ≡ true) forget hw.few) in
-          let long = length_more w.steps g in
-          regular_by r n forget can u (w.steps ++ g ∷ []) (state_behind r w g u line hw goes) (omega (arith, few, long))
+      behind w hw g u line goes = subst (GoesRegular r.program) goes (hw.leads g)
 
       along_both : (u v : State) (line other : Option Seen) → IsRegular r.program u → IsRegular r.program v
           → by_name r.program n u ≡ by_name r.program n v
           → LinesAlike r.program line other
-          → along_after r.recorded s.place.kept.along e line ≡ along_after r.recorded t.place.kept.along f other
+          → along_after r.recorded s.kept.along e line ≡ along_after r.recorded t.kept.along f other
       along_both u v line other ru rv same lines = by does where
-        by : EventsAlike r.program n s.place.state t.place.state e f
-            → along_after r.recorded s.place.kept.along e line ≡ along_after r.recorded t.place.kept.along f other
+        by : EventsAlike r.program n s.state t.state e f
+            → along_after r.recorded s.kept.along e line ≡ along_after r.recorded t.kept.along f other
         by (inl h) =
-            subst (λ g. along_after r.recorded s.place.kept.along e line ≡ along_after r.recorded t.place.kept.along g other) h.0
-            (along_alike r n forget can u v ru rv same s.place.kept.along t.place.kept.along e line other alike.along lines)
+            subst (λ g. along_after r.recorded s.kept.along e line ≡ along_after r.recorded t.kept.along g other) h.0
+            (along_alike r n forget can u v ru rv same s.kept.along t.kept.along e line other alike.along lines)
         by (inr (inl h)) =
-            ap (λ g. along_after r.recorded s.place.kept.along g line) h.one ∙ alike.along
-            ∙ sym (ap (λ g. along_after r.recorded t.place.kept.along g other) h.two)
+            ap (λ g. along_after r.recorded s.kept.along g line) h.one ∙ alike.along
+            ∙ sym (ap (λ g. along_after r.recorded t.kept.along g other) h.two)
         by (inr (inr h)) =
-            ap (λ g. along_after r.recorded s.place.kept.along g line) h.one ∙ alike.along
-            ∙ sym (ap (λ g. along_after r.recorded t.place.kept.along g other) h.two)
+            ap (λ g. along_after r.recorded s.kept.along g line) h.one ∙ alike.along
+            ∙ sym (ap (λ g. along_after r.recorded t.kept.along g other) h.two)
 
-      taken_alike : (u v : State) (line other : Option Seen) → next r.program s.place.state e ≡ Moves u line →
-          next r.program t.place.state f ≡ Moves v other → GoesAlike r.program n s.place.state t.place.state u v line other →
+      taken_alike : (u v : State) (line other : Option Seen) → next r.program s.state e ≡ Moves u line →
+          next r.program t.state f ≡ Moves v other → GoesAlike r.program n s.state t.state u v line other →
           LeadsAlike s t (record { event = e; place = taken r c u line; line = line }) (record { event = f; place = taken r d v other; line = other })
       taken_alike u v line other goes comes k =
           let ru = behind s hs e u line goes in
           let rv = behind t ht f v other comes in
-          let dues = due_goes r.question s.place.state.clock t.place.state.clock u.clock v.clock s.place.kept.due t.place.kept.due alike.due
+          let dues = due_goes r.question s.state.clock t.state.clock u.clock v.clock s.kept.due t.kept.due alike.due
           k.clocks in
           record {
             places = record {
               state = k.same;
               left = ap (λ xs. lessened xs number) alike.left;
-              owed = owed_alike r n forget can u v ru rv k.same s.place.kept.owed t.place.kept.owed line other alike.owed k.lines;
+              owed = owed_alike r n forget can u v ru rv k.same s.kept.owed t.kept.owed line other alike.owed k.lines;
               along = along_both u v line other ru rv k.same k.lines;
-              due = kept_due_alike r n forget can u v ru rv k.same r.question s.place.kept.due t.place.kept.due dues;
+              due = kept_due_alike r n forget can u v ru rv k.same r.question s.kept.due t.kept.due dues;
             };
             regular = ru;
             other = rv;
@@ -144,8 +139,8 @@ module _ (r : Rules) (n : ℕ) (forget : r.forget ≡ Some n) (can : CanForget r
             dues = dues;
           }
 
-      placed_alike : (x y : Next) → next r.program s.place.state e ≡ x → next r.program t.place.state f ≡ y →
-          NextGoes r.program n s.place.state t.place.state x y → LedAlike s t (placed r c (reached r.most x)) (placed r d (reached r.most y))
+      placed_alike : (x y : Next) → next r.program s.state e ≡ x → next r.program t.state f ≡ y →
+          NextGoes r.program n s.state t.state x y → LedAlike s t (placed r c (reached r.most x)) (placed r d (reached r.most y))
       placed_alike (Refuses why) (Refuses other) goes comes k = tt
       placed_alike (Refuses why) (Moves v other) goes comes k = absurd k
       placed_alike (Moves u line) (Refuses why) goes comes k = absurd k
@@ -161,25 +156,25 @@ module _ (r : Rules) (n : ℕ) (forget : r.forget ≡ Some n) (can : CanForget r
           by true false same = absurd cc
           by false true same = absurd cc
 
-    led_alike : (number : ℕ) → LedAlike s t (led r s.place number) (led r t.place number)
+    pub led_alike : (number : ℕ) → LedAlike s t (led r s number) (led r t number)
     led_alike number =
-        let one : led_by r s.place (chosen (lessened s.place.left number) s.place.kept (event_at r s.place number)) ≡ led r s.place number =
-        ap (led_by r s.place) (sym (choice_is r can.differ s.place number)) in
-        let two : led_by r t.place (chosen (lessened t.place.left number) t.place.kept (event_at r t.place number)) ≡ led r t.place number =
-        ap (led_by r t.place) (sym (choice_is r can.differ t.place number)) in
-        subst (λ x. LedAlike s t x (led r t.place number)) one
-        (subst (λ y. LedAlike s t (led_by r s.place (chosen (lessened s.place.left number) s.place.kept (event_at r s.place number))) y) two
-        (by (event_at r s.place number) (event_at r t.place number) (event_brief s.place number) (events_alike number)))
+        let one : led_by r s (chosen (lessened s.left number) s.kept (event_at r s number)) ≡ led r s number =
+        ap (led_by r s) (sym (choice_is r can.differ s number)) in
+        let two : led_by r t (chosen (lessened t.left number) t.kept (event_at r t number)) ≡ led r t number =
+        ap (led_by r t) (sym (choice_is r can.differ t number)) in
+        subst (λ x. LedAlike s t x (led r t number)) one
+        (subst (λ y. LedAlike s t (led_by r s (chosen (lessened s.left number) s.kept (event_at r s number))) y) two
+        (by (event_at r s number) (event_at r t number) (event_brief s number) (events_alike number)))
       where
         by : (x y : Option Event) → ((e : Event) → x ≡ Some e → is_brief (Some n) e ≡ true)
-            → OffersAlike r.program n s.place.state t.place.state x y →
-            LedAlike s t (led_by r s.place (chosen (lessened s.place.left number) s.place.kept x))
-            (led_by r t.place (chosen (lessened t.place.left number) t.place.kept y))
+            → OffersAlike r.program n s.state t.state x y →
+            LedAlike s t (led_by r s (chosen (lessened s.left number) s.kept x))
+            (led_by r t (chosen (lessened t.left number) t.kept y))
         by None None brief h = tt
         by None (Some f) brief h = absurd h
         by (Some e) None brief h = absurd h
         by (Some e) (Some f) brief h =
-            placed_alike number e f h (brief e refl) (next r.program s.place.state e) (next r.program t.place.state f) refl refl
+            placed_alike number e f h (brief e refl) (next r.program s.state e) (next r.program t.state f) refl refl
             (goes_alike r n forget can s t hs ht alike e f h (brief e refl))
 
     -- ---- what a place answers
@@ -190,24 +185,24 @@ module _ (r : Rules) (n : ℕ) (forget : r.forget ≡ Some n) (can : CanForget r
     none_by None (Some y) h = absurd h
     none_by (Some x) None h = absurd h
 
-    none_alike : (count : ℕ) → none_leads r s.place count ≡ none_leads r t.place count
+    none_alike : (count : ℕ) → none_leads r s count ≡ none_leads r t count
     none_alike zero = refl
     none_alike (suc count) =
-        ap₂ (λ x y. x && y) (none_alike count) (none_by (led r s.place count) (led r t.place count) (led_alike count))
+        ap₂ (λ x y. x && y) (none_alike count) (none_by (led r s count) (led r t count) (led_alike count))
 
-    count_alike : move_count r s.place ≡ move_count r t.place
-    count_alike = ap (λ (xs : List Left). move_count r (record s.place { left = xs })) alike.left
+    count_alike : move_count r s ≡ move_count r t
+    count_alike = ap (λ (xs : List Left). move_count r (record s { left = xs })) alike.left
 
-    place_alike : (q : Question) → place_answers r s.place q ≡ place_answers r t.place q
+    pub place_alike : (q : Question) → place_answers r s q ≡ place_answers r t q
     place_alike (asks.Never name) =
-        let ra = spot_regular r n forget can s hs in
-        let rb = spot_regular r n forget can t ht in
+        let ra = hs.regular in
+        let rb = ht.regular in
         ap₂ (λ x y. x && y)
-        (both r n forget can s.place.state t.place.state ra rb alike.state (λ u. has_ended r.program u.place) (reads_ended n r.program))
-        (uncalled_alike r n forget can s.place.state t.place.state ra rb alike.state name)
+        (both r n forget can s.state t.state ra rb alike.state (λ u. has_ended r.program u.place) (reads_ended n r.program))
+        (uncalled_alike r n forget can s.state t.state ra rb alike.state name)
     place_alike asks.Stuck =
         ap₂ (λ x y. x && y) (blocked_alike r n forget can s t hs ht alike)
-        (none_alike (move_count r s.place) ∙ ap (none_leads r t.place) count_alike)
+        (none_alike (move_count r s) ∙ ap (none_leads r t) count_alike)
     place_alike (asks.Late name ms) = refl
     place_alike (asks.Call which name call) = refl
     place_alike (asks.Code code name) = refl
@@ -270,7 +265,13 @@ module _ (r : Rules) (n : ℕ) (forget : r.forget ≡ Some n) (can : CanForget r
 
   module _ (s t : Spot) (hs : IsSpot r s) (ht : IsSpot r t) (few_behind : is_few r.forget (length t.steps + 1) ≡ true)
       (alike : AreAlike r n s.place t.place) where
-    step_covers : (x y : Led) → LeadsAlike s t x y → IsSpot r (record { place = x.place; steps = s.steps ++ x.event ∷ [] }) →
+    going : IsGoing r.program n s.place
+    going = spot_going r n forget can s hs
+
+    other_going : IsGoing r.program n t.place
+    other_going = spot_going r n forget can t ht
+
+    step_covers : (x y : Led) → LeadsAlike s.place t.place x y → IsSpot r (record { place = x.place; steps = s.steps ++ x.event ∷ [] }) →
         IsSpot r (record { place = y.place; steps = t.steps ++ y.event ∷ [] }) →
         (spot_code r (record { place = x.place; steps = s.steps ++ x.event ∷ [] })
         ≡ spot_code r (record { place = y.place; steps = t.steps ++ y.event ∷ [] }))
@@ -278,9 +279,8 @@ module _ (r : Rules) (n : ℕ) (forget : r.forget ≡ Some n) (can : CanForget r
     step_covers x y h hx hy =
         let line = line_alike r n forget can x.place.state y.place.state h.regular h.other h.places.state s.place.kept.due t.place.kept.due
         x.line y.line h.dues h.lines h.timers in
-        let place = place_alike (record { place = x.place; steps = s.steps ++ x.event ∷ [] })
-        (record { place = y.place; steps = t.steps ++ y.event ∷ [] })
-        hx hy h.places r.question in (
+        let place = place_alike x.place y.place (spot_going r n forget can (record { place = x.place; steps = s.steps ++ x.event ∷ [] }) hx)
+        (spot_going r n forget can (record { place = y.place; steps = t.steps ++ y.event ∷ [] }) hy) h.places r.question in (
           codes_alike x.place y.place h.regular h.other h.places,
           ap₂ (λ one two. if one then true else two) line place,
         )
@@ -296,15 +296,15 @@ module _ (r : Rules) (n : ℕ) (forget : r.forget ≡ Some n) (can : CanForget r
     takes_cover number worker other u v line says runs goes comes here there =
         let both : EventsAlike r.program n s.place.state t.place.state (Take worker) (Take other) =
         inr (inl (record { worker = worker; other = other; one = refl; two = refl; same = runs })) in
-        let next_both = goes_alike r n forget can s t hs ht alike (Take worker) (Take other) both refl in
+        let next_both = goes_alike r n forget can s.place t.place going other_going alike (Take worker) (Take other) both refl in
         let moved : GoesAlike r.program n s.place.state t.place.state u v line says =
         subst (λ y. NextGoes r.program n s.place.state t.place.state (Moves u line) y) comes
         (subst (λ x. NextGoes r.program n s.place.state t.place.state x (next r.program t.place.state (Take other))) goes next_both) in
         step_covers (led_take r s.place number worker u line) (led_take r t.place number other v says)
-        (taken_alike s t hs ht alike number (Take worker) (Take other) both refl u v line says goes comes moved) here there
+        (taken_alike s.place t.place going other_going alike number (Take worker) (Take other) both refl u v line says goes comes moved) here there
 
     module _ (number : ℕ) where
-      covers_by : (x y : Option Led) → led r s.place number ≡ x → led r t.place number ≡ y → LedAlike s t x y →
+      covers_by : (x y : Option Led) → led r s.place number ≡ x → led r t.place number ≡ y → LedAlike s.place t.place x y →
           CoversStep (spot_code r) (spot_of r s x) (spot_of r t y)
       covers_by None None is so h = tt
       covers_by None (Some y) is so h = absurd h
@@ -324,8 +324,9 @@ module _ (r : Rules) (n : ℕ) (forget : r.forget ≡ Some n) (can : CanForget r
 
     covers : CoversMoves (λ (a : Spot). move_count r a.place) (next_spot r) (spot_code r) s t
     covers = (
-      count_alike s t hs ht alike,
-      λ number below. covers_by number (led r s.place number) (led r t.place number) refl refl (led_alike s t hs ht alike number),
+      count_alike s.place t.place going other_going alike,
+      λ number below. covers_by number (led r s.place number) (led r t.place number) refl refl
+          (led_alike s.place t.place going other_going alike number),
     )
 
 -- ---- where places are told whole

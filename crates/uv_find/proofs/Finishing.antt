@@ -105,7 +105,7 @@ one_runner (Some x ∷ xs) (suc i) zero id d e f =
     absurd (true≢false (sym (has_at [] xs i id e) ∙ ap (has_id (run_ids xs)) (sym same) ∙ d.0))
 one_runner (Some x ∷ xs) (suc i) (suc j) id d e f = ap suc (one_runner xs i j id d.1 e f)
 
-run_there : (xs : List Run) (k : ℕ) (id : Id) → option_and_then (λ run. run) (slice_get xs k) ≡ Some id → slice_get xs k ≡ Some (Some id)
+pub run_there : (xs : List Run) (k : ℕ) (id : Id) → option_and_then (λ run. run) (slice_get xs k) ≡ Some id → slice_get xs k ≡ Some (Some id)
 run_there [] k id e = absurd (none-some id e)
 run_there (x ∷ xs) zero id e = ap Some e
 run_there (x ∷ xs) (suc k) id e = run_there xs k id e
@@ -114,6 +114,23 @@ runs_within : (xs : List Run) (k : ℕ) (id : Id) → slice_get xs k ≡ Some (S
 runs_within [] k id e = absurd (none-some (Some id) e)
 runs_within (x ∷ xs) zero id e = omega arith
 runs_within (x ∷ xs) (suc k) id e = let more = runs_within xs k id e in omega (arith, more)
+
+-- of a request that a worker runs, the worker of its rank is that one
+pub rank_runs : (s : State) → AreDistinct (s.waiting ++ run_ids s.running)
+    → ((k : ℕ) (x : Id) → slice_get s.running k ≡ Some (Some x) → IsInSlot s x)
+    → (worker : ℕ) (id : Id) → slice_get s.running worker ≡ Some (Some id) → runner s (rank_of s id) ≡ Some worker
+rank_runs s distinct in_slot worker id runs =
+    let first = slot_rank s worker id (rank_of s id) runs refl in
+    let found = rank_slot s (rank_of s id) first.0 first.1 in
+    let other = found.0 in
+    let key : key_at s.arena.slots other ≡ key_at s.arena.slots id =
+    rank_one (keys_run s) first.0 worker (key_at s.arena.slots other) (key_at s.arena.slots id) (key_there s first.0 other found.1)
+    (key_there s worker id runs) found.2 in
+    let slot : other.slot ≡ id.slot = ap (λ (x : Id). x.generation) key in
+    let one : other ≡ id = one_in_slot s other id slot (in_slot first.0 other found.1) (in_slot worker id runs) in
+    let same : first.0 ≡ worker = one_runner s.running first.0 worker id (distinct_behind s.waiting (run_ids s.running) distinct)
+    (found.1 ∙ ap (λ x. Some (Some x)) one) runs in
+    first.1 ∙ ap Some same
 
 module _ (p : Program) (gs : List Event) (s : State) (is : s ≡ after p gs) (worker : ℕ) (id : Id)
     (runs : slice_get s.running worker ≡ Some (Some id)) where
@@ -125,18 +142,7 @@ module _ (p : Program) (gs : List Event) (s : State) (is : s ≡ after p gs) (wo
 
   -- it is the worker of the rank of its request
   pub its_rank : runner s (rank_of s id) ≡ Some worker
-  its_rank =
-      let first = slot_rank s worker id (rank_of s id) runs refl in
-      let found = rank_slot s (rank_of s id) first.0 first.1 in
-      let other = found.0 in
-      let key : key_at s.arena.slots other ≡ key_at s.arena.slots id =
-      rank_one (keys_run s) first.0 worker (key_at s.arena.slots other) (key_at s.arena.slots id) (key_there s first.0 other found.1)
-      (key_there s worker id runs) found.2 in
-      let slot : other.slot ≡ id.slot = ap (λ (x : Id). x.generation) key in
-      let one : other ≡ id = one_in_slot s other id slot (in_slot first.0 other found.1) (in_slot worker id runs) in
-      let same : first.0 ≡ worker = one_runner s.running first.0 worker id (distinct_behind s.waiting (run_ids s.running) opened.distinct)
-      (found.1 ∙ ap (λ x. Some (Some x)) one) runs in
-      first.1 ∙ ap Some same
+  its_rank = rank_runs s opened.distinct in_slot worker id runs
 
   long : length s.running ≡ worker_count p
   long = ap (λ (u : State). length u.running) is ∙ after_long p gs

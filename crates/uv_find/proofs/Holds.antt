@@ -1,5 +1,7 @@
 -- What holds where moves are held back.
-use Rattle.std.proofs.Common.{◌≡◌, ℕ, zero, suc, ◌+◌, ◌-◌, ◌≤◌, Bool, true, false, not, List, [], ◌∷◌, ◌++◌, Some, None, slice_get, refl, sym, ap, subst, ◌∙◌, append_assoc, if◌then◌else◌, arith}
+use Rattle.std.proofs.Common.{◌≡◌, ℕ, zero, suc, ◌+◌, ◌-◌, ◌<◌, ◌≤◌, Bool, true, false, ◌&&◌, not, List, [], ◌∷◌, ◌++◌, length, length-append, Some, None, slice_get, if◌then◌else◌, ◌⊎◌, inl, inr, refl, sym, ap, subst, ◌∙◌, append_assoc, arith}
+use Rattle.std.specs.Prelude.{unwrap_or}
+use Rattle.std.specs.List.{list_any}
 use Rattle.std.proofs.lemmas.Bool.{and_parts}
 use Rattle.std.proofs.lemmas.Option.{same_Some, none-some}
 use Rattle.uv_ids.specs.declared.event.Event.TheVariants as event
@@ -10,7 +12,8 @@ use Rattle.uv_asking.specs.declared.asking.Offered.{Offered}
 use Rattle.uv_find.specs.Forgetting.{calls_end}
 use Rattle.uv_find.specs.Holding.{can_meet, can_all_meet, asks_late, is_empty, may_hold, hold_of, is_clear_of_takes, are_clear_of_takes, may_take_at_once, loop_number}
 use Rattle.uv_find.specs.Orders.{at_will, finishes, first_offers, every_offer}
-use Rattle.uv_find.specs.Spots.{CanHold, CanTakeAtOnce, MayHold, rules_of}
+use Rattle.uv_find.specs.Mates.{offer_spares, offers_spare, is_mate, mates_of, mates_in, has_mate}
+use Rattle.uv_find.specs.Spots.{AreMates, CanHold, CanTakeAtOnce, MayHold, rules_of}
 use Rattle.uv_find.proofs.Forgets.{all_front, is_absent}
 use Rattle.uv_find.proofs.Led.{each}
 use Rattle.uv_find.proofs.Meeting.{not_true}
@@ -130,8 +133,80 @@ taking p asked at_once is may =
       question = not_true (asks_late asked.question) question.1;
     }
 
+-- ---- names that are alike
+
+-- of the first ones
+mate_at : (p : Program) (asked : Asked) (n a : ℕ) → has_mate (mates_of p asked n) a ≡ true → (a < n) × (is_mate p asked a ≡ true)
+mate_at p asked zero a h = absurd (let f : false ≡ true = h in cc)
+mate_at p asked (suc n) a h = by (mate_at p asked n a) (get_either (mates_of p asked n) (is_mate p asked n) a) where
+  long : (m : ℕ) → length (mates_of p asked m) ≡ m
+  long zero = refl
+  long (suc m) = let rest = long m in omega (arith, rest, length-append (mates_of p asked m) (is_mate p asked m ∷ []))
+
+  get_either : (xs : List Bool) (x : Bool) (i : ℕ) → (slice_get (xs ++ x ∷ []) i ≡ slice_get xs i)
+      ⊎ ((i ≡ length xs) × (slice_get (xs ++ x ∷ []) i ≡ Some x))
+  get_either [] x zero = inr (refl, refl)
+  get_either [] x (suc i) = inl refl
+  get_either (y ∷ ys) x zero = inl refl
+  get_either (y ∷ ys) x (suc i) = elim (get_either ys x i) [ inl e ↦ inl e | inr e ↦ inr (ap suc e.0, e.1) ]
+
+  by : (has_mate (mates_of p asked n) a ≡ true → (a < n) × (is_mate p asked a ≡ true))
+      → (slice_get (mates_of p asked n ++ is_mate p asked n ∷ []) a ≡ slice_get (mates_of p asked n) a)
+      ⊎ ((a ≡ length (mates_of p asked n)) × (slice_get (mates_of p asked n ++ is_mate p asked n ∷ []) a ≡ Some (is_mate p asked n)))
+      → (a < suc n) × (is_mate p asked a ≡ true)
+  by more (inl same) =
+      let before = more (ap (λ o. unwrap_or o false) (sym same) ∙ h) in
+      (omega (arith, before.0), before.1)
+  by more (inr (last, is)) =
+      let one : a ≡ n = last ∙ long n in (
+        omega (arith, one),
+        ap (is_mate p asked) one ∙ ap (λ o. unwrap_or o false) (sym is) ∙ h,
+      )
+
+spared_finishes : (a workers : ℕ) → offers_spare a (finishes workers) ≡ true
+spared_finishes a zero = refl
+spared_finishes a (suc n) =
+    all_front (λ (o : Offered). offer_spares a o.offer) (finishes n) (at_will (Step (event.Finish n)) ∷ []) (spared_finishes a n) refl
+
+mates_alike : (p : Program) (asked : Asked) (a : ℕ) → may_take_at_once p asked ≡ true → a + 1 < length p.callbacks → is_mate p asked a ≡ true
+    → AreMates (rules_of p asked) a
+mates_alike p asked a now within is =
+    let question = and_parts _ _ is in
+    let bounds = and_parts _ _ question.0 in
+    let offers = and_parts _ _ bounds.0 in
+    let callbacks = and_parts _ _ offers.0 in
+    let mute = and_parts _ _ callbacks.0 in
+    let all : (rules_of p asked).offers ≡ first_offers true ++ (finishes (worker_count p) ++ asked.offers) =
+    ap (λ b. every_offer b (worker_count p) asked.offers) now ∙ offers_are true (finishes (worker_count p)) asked.offers in
+    record {
+      at_once = now;
+      within = within;
+      mute = mute.0;
+      other = mute.1;
+      callbacks = callbacks.1;
+      offers = subst (λ xs. offers_spare a xs ≡ true) (sym all)
+          (all_front (λ (o : Offered). offer_spares a o.offer) (finishes (worker_count p)) asked.offers (spared_finishes a (worker_count p))
+          offers.1);
+      bounds = bounds.1;
+      question = question.1;
+    }
+
+alike : (p : Program) (asked : Asked) (a : ℕ) → has_mate (mates_in p asked) a ≡ true → AreMates (rules_of p asked) a
+alike p asked a has = by (may_take_at_once p asked) refl (list_any (λ b. b) all) has where
+  all : List Bool
+  all = mates_of p asked (length p.callbacks - 1)
+
+  by : (now : Bool) → may_take_at_once p asked ≡ now → (some : Bool) → has_mate (if now && some then all else []) a ≡ true
+      → AreMates (rules_of p asked) a
+  by true is true h =
+      let one = mate_at p asked (length p.callbacks - 1) a h in
+      mates_alike p asked a is (omega (arith, one.0)) one.1
+  by true is false h = absurd (let f : false ≡ true = h in cc)
+  by false is some h = absurd (let f : false ≡ true = h in cc)
+
 pub holds : (p : Program) (asked : Asked) → MayHold (rules_of p asked)
 holds p asked = record {
   behind_loop = behind_loop p asked;
   behind_take = λ may. taking p asked (may_take_at_once p asked) refl may;
+  alike = alike p asked;
 }

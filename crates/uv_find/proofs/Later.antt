@@ -1,12 +1,10 @@
 -- What may be asked of one timer may be asked of another one, and of another number of ms.
-use Rattle.std.proofs.Common.{◌≡◌, ℕ, ◌≤◌, Bool, true, false, refl, sym, ◌∙◌, arith}
+use Rattle.std.proofs.Common.{◌≡◌, ℕ, true, arith}
 use Rattle.std.proofs.lemmas.Bool.{both_ways}
 use Rattle.uv_ids.specs.declared.id.Var.{Var}
-use Rattle.uv_asking.specs.declared.asking.Question.{Question}
-use Rattle.uv_asking.specs.declared.asking.Question.TheVariants as asks
 use Rattle.uv_find.specs.Holding.{asks_late}
 use Rattle.uv_find.specs.Orders.{Rules, asked_late}
-use Rattle.uv_find.specs.Spots.{MayForget, MayHold, CanForget}
+use Rattle.uv_find.specs.Spots.{MayForget, MayHold}
 
 pub later_forgets : (r : Rules) (name : Var) (ms : ℕ) → MayForget r → MayForget (asked_late r name ms)
 later_forgets r name ms may n some =
@@ -29,6 +27,7 @@ pub later_holds : (r : Rules) (name : Var) (ms : ℕ) → asks_late r.question �
 later_holds r name ms late may = record {
   behind_loop = λ ticks h. absurd (both_ways _ (may.behind_loop ticks h).question late);
   behind_take = λ h. absurd (both_ways _ (may.behind_take h).question late);
+  alike = λ a h. absurd (both_ways _ (may.behind_take (may.alike a h).at_once).question late);
 }
 
 pub ruleset asking_later = (later_forgets, later_holds)

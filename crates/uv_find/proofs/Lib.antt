@@ -19,6 +19,13 @@ pub mod Finishing
 pub mod Within
 mod Keys
 mod Scans
+mod Swap
+mod Mirrored
+mod MainLines
+mod Twins
+mod Turned
+mod Mirroring
+pub mod Covered
 pub mod Declaring
 pub mod Forgets
 mod Apart

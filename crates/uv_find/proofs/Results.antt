@@ -10,11 +10,12 @@ use Rattle.uv_find.specs.declared.finding.Answer.TheVariants as answer
 use Rattle.uv_script.specs.Program.{worker_count}
 use Rattle.uv_find.specs.Holding.{are_at_will, loop_number}
 use Rattle.uv_find.specs.Kept.{owes}
+use Rattle.uv_find.specs.Mates.{later_rank, is_covered_by}
 use Rattle.uv_find.specs.Orders.{Rules, Place, Led, move_count}
 use Rattle.uv_find.specs.Courses as courses
 use Rattle.uv_find.specs.Courses.{Course, KeptCourse, AnswersBy}
 use Rattle.uv_find.specs.Questions.{answers, place_answers}
-use Rattle.uv_find.specs.Spots.{Spot, next_spot, spot_code, place_code, first_spot, is_few, is_told, holds_back, apart, apart_by, is_loop_first, is_take_first, IsTold, MayForget, IsSpot, IsDeep}
+use Rattle.uv_find.specs.Spots.{Spot, next_spot, spot_code, place_code, first_spot, is_few, is_told, holds_back, apart, covered, apart_by, is_loop_first, is_take_first, IsTold, MayForget, IsSpot, IsDeep}
 use Rattle.uv_find.specs.Found.{AllLead, OneLeads, AreClosed, AreReached, Finds, KeysTell}
 use Rattle.uv_find.proofs.Led.{led_leads, leads_spot}
 use Rattle.uv_find.proofs.Telling.{places_tell}
@@ -98,11 +99,16 @@ module _ (r : Rules) (s : Spot) where
   )
 
   abbrev IsNone : ℕ → Type 0
-  IsNone number = settled.Never (λ (a : Spot). move_count r a.place) (next_spot r) (spot_code r) IsDeep (apart r) (IsTold r) s number
+  IsNone number = settled.Never (λ (a : Spot). move_count r a.place) (next_spot r) (spot_code r) IsDeep (apart r) (covered r) (IsTold r) s number
 
   -- where moves aren't held back, none is apart
-  holds_none : holds_back r ≡ false → settled.HoldsNone (λ (a : Spot). move_count r a.place) (next_spot r) (spot_code r) IsDeep (apart r) (IsTold r) s
-  holds_none none is q k led = by (k == loop_number r.at_once) where
+  holds_none : holds_back r ≡ false
+      → settled.HoldsNone (λ (a : Spot). move_count r a.place) (next_spot r) (spot_code r) IsDeep (apart r) (covered r) (IsTold r) s
+  holds_none none is q k led = (
+    by (k == loop_number r.at_once),
+    ap (λ b. b && is_covered_by r q.place (later_rank (worker_count r.program) k))
+        (neither_one (is_some r.hold) r.at_once none).1,
+  ) where
     by : (b : Bool) → (if b then is_loop_first r q.place else ((k == 0) && is_take_first r q.place)) ≡ false
     by true = loop_none r.hold (neither_one (is_some r.hold) r.at_once none).0 where
       loop_none : (o : Option Bool) → is_some o ≡ false → apart_by o r.program (loop_number r.at_once) q.place ≡ false
@@ -126,12 +132,12 @@ module _ (r : Rules) (s : Spot) where
 
   -- the keys that were kept are closed
   all_or_one : (keys : List (List ℕ)) (q : Spot) → is_few r.forget (length q.steps + 1) ≡ true
-      → settled.AllLead (λ (a : Spot). move_count r a.place) (next_spot r) (spot_code r) IsDeep (apart r) (IsTold r) keys q
-      ⊎ settled.OneLeads (λ (a : Spot). move_count r a.place) (next_spot r) (spot_code r) IsDeep (apart r) (IsTold r) keys q
+      → settled.AllLead (λ (a : Spot). move_count r a.place) (next_spot r) (spot_code r) IsDeep (apart r) (covered r) (IsTold r) keys q
+      ⊎ settled.OneLeads (λ (a : Spot). move_count r a.place) (next_spot r) (spot_code r) IsDeep (apart r) (covered r) (IsTold r) keys q
       → AllLead r keys q.place ⊎ OneLeads r keys q.place
-  all_or_one keys q few (inl all) = inl (λ l on.
+  all_or_one keys q few (inl all) = inl (λ l on bare.
       let move = event_move r q l on few in
-      (all on.number (after_event q l) (answers r q.place l) move.0 move.1).1)
+      (all on.number (after_event q l) (answers r q.place l) move.0 bare move.1).1)
   all_or_one keys q few (inr (i, m, offered, first, goes, has)) =
       let one = move_is r q m i false goes in
       inr (i, one.0, first, one.1.0, subst (λ (x : Spot). Has keys (place_code r x.place)) one.1.1 has)

@@ -197,7 +197,7 @@ rank_below s j id there = subst (λ n. rank_of s id < n) (length-map s.running (
     (rank_within (keys_run s) j (key_at s.arena.slots id) (key_there s j id there))
 
 -- its rank is that of its name
-rank_named : (p : Program) (s : State) (j : ℕ) (id : Id) → IsRegular p s → slice_get s.running j ≡ Some (Some id)
+pub rank_named : (p : Program) (s : State) (j : ℕ) (id : Id) → IsRegular p s → slice_get s.running j ≡ Some (Some id)
     → rank_of s id ≡ rank_in (called s) (as_id (name_at s.arena.slots id))
 rank_named p s j id h there = rank_by_name s.arena.slots s.running (name_at s.arena.slots id) id.slot
     (λ i other at same. ap (λ (x : Id). x.slot) (same_request p s i j other id h at there same))
@@ -205,7 +205,7 @@ rank_named p s j id h there = rank_by_name s.arena.slots s.running (name_at s.ar
 module _ (n : ℕ) (p : Program) where
   -- what is said of the one is said of the other
   module _ (a b : State) (ra : IsRegular p a) (rb : IsRegular p b) (same : by_name p n a ≡ by_name p n b) where
-    rank_same : (name : Id) → rank_in (called a) name ≡ rank_in (called b) name
+    pub rank_same : (name : Id) → rank_in (called a) name ≡ rank_in (called b) name
     rank_same name =
         sym (rank_ordered (called a) name)
         ∙ ap (λ (runs : List Run). rank_in runs name) (reads_alike n (λ (s : State). ordered (called s)) p (reads_called n) a b ra rb same)

@@ -27,28 +27,27 @@ some_at (y ∷ ys) (suc k) d within = some_at ys k d (omega (arith, within))
 
 -- ---- whether a test holds of each
 
-pub all_goes : {A : Type 0} (f : A → Bool) (xs : List A) (k : ℕ) (x : A) → slice_get xs k ≡ Some x → f x ≡ true →
-    list_all f (drop k xs) ≡ list_all f xs → list_all f (drop (k + 1) xs) ≡ list_all f xs
-all_goes f xs k x e h so = ap (λ b. b && list_all f (drop (k + 1) xs)) (sym h) ∙ ap (list_all f) (sym (rest_at xs k x e)) ∙ so
+pub all_goes : {A : Type 0} (f : A → Bool) (xs : List A) (k : ℕ) (x : A) (all : Bool) → slice_get xs k ≡ Some x → f x ≡ true →
+    list_all f (drop k xs) ≡ all → list_all f (drop (k + 1) xs) ≡ all
+all_goes f xs k x all e h so = ap (λ b. b && list_all f (drop (k + 1) xs)) (sym h) ∙ ap (list_all f) (sym (rest_at xs k x e)) ∙ so
 
-pub all_fails : {A : Type 0} (f : A → Bool) (xs : List A) (k : ℕ) (x : A) → slice_get xs k ≡ Some x → f x ≡ false →
-    list_all f (drop k xs) ≡ list_all f xs → false ≡ list_all f xs
-all_fails f xs k x e h so = ap (λ b. b && list_all f (drop (k + 1) xs)) (sym h) ∙ ap (list_all f) (sym (rest_at xs k x e)) ∙ so
+pub all_fails : {A : Type 0} (f : A → Bool) (xs : List A) (k : ℕ) (x : A) (all : Bool) → slice_get xs k ≡ Some x → f x ≡ false →
+    list_all f (drop k xs) ≡ all → false ≡ all
+all_fails f xs k x all e h so = ap (λ b. b && list_all f (drop (k + 1) xs)) (sym h) ∙ ap (list_all f) (sym (rest_at xs k x e)) ∙ so
 
-pub all_ends : {A : Type 0} (f : A → Bool) (xs : List A) (k : ℕ) → slice_get xs k ≡ None → list_all f (drop k xs) ≡ list_all f xs →
-    true ≡ list_all f xs
-all_ends f xs k e so = ap (list_all f) (sym (none_at xs k e)) ∙ so
+pub all_ends : {A : Type 0} (f : A → Bool) (xs : List A) (k : ℕ) (all : Bool) → slice_get xs k ≡ None → list_all f (drop k xs) ≡ all → true ≡ all
+all_ends f xs k all e so = ap (list_all f) (sym (none_at xs k e)) ∙ so
 
-pub all_past : {A : Type 0} (f : A → Bool) (xs : List A) (k : ℕ) → length xs ≤ k → list_all f (drop k xs) ≡ list_all f xs → true ≡ list_all f xs
-all_past f xs k past so = ap (list_all f) (sym (drop_all k xs past)) ∙ so
+pub all_past : {A : Type 0} (f : A → Bool) (xs : List A) (k : ℕ) (all : Bool) → length xs ≤ k → list_all f (drop k xs) ≡ all → true ≡ all
+all_past f xs k all past so = ap (list_all f) (sym (drop_all k xs past)) ∙ so
 
 pub all_goes_in : {A : Type 0} (f : A → Bool) (xs : List A) (k : ℕ) (d : A) → k < length xs → f (unwrap_or (slice_get xs k) d) ≡ true →
     list_all f (drop k xs) ≡ list_all f xs → list_all f (drop (k + 1) xs) ≡ list_all f xs
-all_goes_in f xs k d within h so = all_goes f xs k (unwrap_or (slice_get xs k) d) (some_at xs k d within) h so
+all_goes_in f xs k d within h so = all_goes f xs k (unwrap_or (slice_get xs k) d) (list_all f xs) (some_at xs k d within) h so
 
 pub all_fails_in : {A : Type 0} (f : A → Bool) (xs : List A) (k : ℕ) (d : A) → k < length xs → f (unwrap_or (slice_get xs k) d) ≡ false →
     list_all f (drop k xs) ≡ list_all f xs → false ≡ list_all f xs
-all_fails_in f xs k d within h so = all_fails f xs k (unwrap_or (slice_get xs k) d) (some_at xs k d within) h so
+all_fails_in f xs k d within h so = all_fails f xs k (unwrap_or (slice_get xs k) d) (list_all f xs) (some_at xs k d within) h so
 
 -- ---- behind the call of each line
 

@@ -20,6 +20,7 @@ use Rattle.uv_find.specs.declared.latest.Rung.TheVariants as rung
 use Rattle.uv_asking.specs.Asked.{Asked}
 use Rattle.uv_find.specs.Forgetting.{LONG, LONGEST}
 use Rattle.uv_find.specs.Orders.{Rules, Place, Led, asked_late, led, beginning}
+use Rattle.uv_find.specs.Mates.{is_covered}
 use Rattle.uv_find.specs.Questions.{place_answers}
 use Rattle.uv_find.specs.Courses.{Course, LeadsOn, AnswersBy, NeverAnswered, IsAnswer, IsOffered}
 use Rattle.uv_find.specs.Spots.{Spot, told, place_code, is_few, is_apart, holds_back, MayForget, IsDeep, rules_of}
@@ -30,9 +31,10 @@ pub record AreReached (r : Rules) (p : Place) (number : ℕ) (keys : List (List 
   pub distinct : IsDistinct (pointwise nat_eq) keys
   pub each : (k : List ℕ) → Has keys k → (es : List Event) × (q : Place) × Course r p es q × (place_code r q ≡ k)
 
--- each event that leads on from here leads to a place that has one of these keys
+-- each event that leads on from here leads to a place that has one of these keys, except where it finishes a request of which one like it, of
+-- the rank before, is run too
 abbrev pub AllLead : Rules → List (List ℕ) → Place → Type 0
-AllLead r keys p = (l : Led) → LeadsOn r p l → Has keys (place_code r l.place)
+AllLead r keys p = (l : Led) (on : LeadsOn r p l) → is_covered r p on.number ≡ false → Has keys (place_code r l.place)
 
 -- one that is apart from all others does: the others are held back
 abbrev pub OneLeads : Rules → List (List ℕ) → Place → Type 0

@@ -21,7 +21,7 @@ use Rattle.uv_asking.specs.declared.asking.Offered.{Offered}
 use Rattle.uv_asking.specs.declared.asking.Question.{Question}
 use Rattle.uv_asking.specs.declared.asking.Question.TheVariants as asks
 use Rattle.uv_find.specs.Forgetting.{is_small_op, may_forget}
-use Rattle.uv_find.specs.Ops.{each_op}
+use Rattle.uv_find.specs.Ops.{spares, each_op}
 use Rattle.uv_find.specs.declared.ops.OpTest.{OpTest}
 use Rattle.uv_find.specs.declared.ops.OpTest.TheVariants as tests
 use Rattle.uv_find.specs.declared.left.Left.{Left}
@@ -83,6 +83,7 @@ is_no_cancel o = not (cancels_op o)
 abbrev pub test_of : OpTest → Op → Bool
 test_of tests.IsShort = is_small_op
 test_of tests.IsNoCancel = is_no_cancel
+test_of (tests.Spares first) = spares first
 
 -- a worker may take a request at once: workers are alike, no time of a callback is said, and nobody cancels
 abbrev pub may_take_at_once : Program → Asked → Bool

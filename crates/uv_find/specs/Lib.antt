@@ -2,6 +2,7 @@
 pub mod Ops
 pub mod Forgetting
 pub mod Holding
+pub mod Mates
 pub mod Ranks
 pub mod Kept
 pub mod Orders

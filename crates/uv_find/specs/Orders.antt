@@ -55,6 +55,8 @@ pub record Rules : Type 0 where
   pub hold : Option Bool
   -- a worker takes a request at once: what else may come can't tell when it does
   pub at_once : Bool
+  -- of each name, whether it is like the next one
+  pub mates : List Bool
 
 -- the same with another question: this timer is called so many ms late
 abbrev pub asked_late : Rules → Var → ℕ → Rules

@@ -14,7 +14,8 @@ use Rattle.uv_find.specs.Forgetting.{LONG, LONGEST, are_common, most_end, takes_
 use Rattle.uv_asking.specs.declared.asking.Offer.TheVariants.{Step, Take}
 use Rattle.uv_asking.specs.declared.asking.Offered.{Offered}
 use Rattle.uv_find.specs.Holding.{can_meet, asks_late, hold_of, is_loop_apart, is_at_will, are_at_will, is_clear_of_takes, is_no_cancel, may_take_at_once, loop_number}
-use Rattle.uv_find.specs.Ops.{each_op}
+use Rattle.uv_find.specs.Ops.{spares, of_callbacks, each_op}
+use Rattle.uv_find.specs.Mates.{is_mute, offers_spare, bounds_spare, question_spares, mates_in, has_mate, is_covered}
 use Rattle.uv_find.specs.Kept.{owes}
 use Rattle.uv_find.specs.Orders.{at_will, may_wait, Rules, Place, Led, led, is_brief, every_offer, beginning}
 use Rattle.uv_find.specs.Questions.{answers}
@@ -29,7 +30,8 @@ use Rattle.uv_find.specs.declared.orders.Was.TheVariants as was
 use Rattle.uv_asking.specs.Asked.{Asked}
 use Rattle.uv_asking.specs.declared.asking.Question.{Question}
 use Rattle.uv_asking.specs.declared.asking.Question.TheVariants as asks
-use Rattle.uv_script.specs.Program.{Program, arena_size, worker_count}
+use Rattle.uv_script.specs.Program.{Program, arena_size, worker_count, callbacks_of}
+use Rattle.std.specs.List.{list_all}
 use Rattle.uv_session.specs.Shown.{Shown}
 
 -- where a search forgets, a slot's generations don't run out within the steps of an order
@@ -78,10 +80,22 @@ pub record CanTakeAtOnce (r : Rules) : Type 0 where
   pub takes : r.takes ≡ []
   pub question : asks_late r.question ≡ false
 
+-- this name and the next one are alike
+pub record AreMates (r : Rules) (a : ℕ) : Type 0 where
+  pub at_once : r.at_once ≡ true
+  pub within : a + 1 < length r.program.callbacks
+  pub mute : is_mute (callbacks_of r.program (record { 0 = a })) ≡ true
+  pub other : is_mute (callbacks_of r.program (record { 0 = a + 1 })) ≡ true
+  pub callbacks : list_all (of_callbacks (spares a)) r.program.callbacks ≡ true
+  pub offers : offers_spare a r.offers ≡ true
+  pub bounds : bounds_spare a r.most ≡ true
+  pub question : question_spares a r.question ≡ true
+
 -- where moves are held back, they may be
 pub record MayHold (r : Rules) : Type 0 where
   pub behind_loop : (ticks : Bool) → r.hold ≡ Some ticks → CanHold r ticks
   pub behind_take : r.at_once ≡ true → CanTakeAtOnce r
+  pub alike : (a : ℕ) → has_mate r.mates a ≡ true → AreMates r a
 
 pub record Spot : Type 0 where
   pub place : Place
@@ -178,6 +192,9 @@ is_take_first r q = r.at_once && (are_at_will (worker_count r.program + 2) q.lef
 abbrev pub is_apart : Rules → Place → ℕ → Bool
 is_apart r p number = if number == loop_number r.at_once then is_loop_first r p else ((number == 0) && is_take_first r p)
 
+abbrev pub covered : Rules → Spot → ℕ → Bool
+covered r s number = is_covered r s.place number
+
 abbrev pub apart : Rules → Spot → ℕ → Bool
 apart r s number = is_apart r s.place number
 
@@ -247,6 +264,7 @@ rules_of p asked = record {
   forget = forget_of p asked;
   hold = hold_of asked;
   at_once = may_take_at_once p asked;
+  mates = mates_in p asked;
 }
 
 abbrev pub first_spot : Rules → Spot
@@ -267,6 +285,7 @@ rules_by p t = record {
   forget = t.forget;
   hold = t.hold;
   at_once = t.at_once;
+  mates = t.mates.items;
 }
 
 -- where a session stands

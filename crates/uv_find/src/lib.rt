@@ -14,6 +14,7 @@ mod jobs;
 mod kept;
 mod latest;
 mod left;
+mod mates;
 mod ops;
 mod orders;
 mod questions;

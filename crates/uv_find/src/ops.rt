@@ -1,5 +1,5 @@
 //! What holds of each op of a script.
-ghost use Rattle.std.specs.Prelude.{◌≡◌, length};
+ghost use Rattle.std.specs.Prelude.{◌≡◌, drop, length};
 ghost use Rattle.std.specs.List.{list_all};
 ghost use Rattle.uv_script.specs.Program.{IsWhole, callbacks_of};
 ghost use Rattle.uv_find.specs.Holding.{test_of};
@@ -7,6 +7,7 @@ ghost use Rattle.uv_find.specs.Ops.{of_main, of_lines, of_callbacks, each_op};
 
 use crate::at_once::is_no_cancel;
 use crate::forgetting::is_small_op;
+use crate::mates::spares;
 use uv_ids::{Callback, Var};
 use uv_script::{CallbackLine, MainOp, Op, Script};
 
@@ -20,6 +21,8 @@ pub(crate) enum OpTest {
     IsShort,
     /// It is no cancel.
     IsNoCancel,
+    /// It names neither this name nor the next one.
+    Spares(u32),
 }
 
 fn holds(test: OpTest, op: Op) -> bool
@@ -28,6 +31,7 @@ fn holds(test: OpTest, op: Op) -> bool
     match test {
         OpTest::IsShort => is_small_op(op),
         OpTest::IsNoCancel => is_no_cancel(op),
+        OpTest::Spares(first) => spares(first, op),
     }
 }
 
@@ -66,13 +70,30 @@ fn holds_in_main(script: &Script, test: OpTest) -> bool
 }
 
 #[tactic(auto, using(crate::proofs::Scans::scanning))]
-fn holds_in_callbacks(script: &Script, names: usize, test: OpTest) -> bool
+pub(crate) fn holds_in_callbacks(script: &Script, names: usize, test: OpTest) -> bool
     requires whole { IsWhole script.now }
     requires names { names ≡ length script.now.names }
     ensures { result ≡ list_all (of_callbacks (test_of test)) script.now.callbacks }
 {
     'names: for name in 0..names {
         if !of_callbacks(test, script, Var(name as u32)) {
+            return false;
+        }
+    }
+    true
+}
+
+/// Whether this holds of each line of the main program from this one on.
+#[tactic(auto, using(crate::proofs::Scans::scanning))]
+pub(crate) fn holds_in_main_from(script: &Script, first: usize, test: OpTest) -> bool
+    requires whole { IsWhole script.now }
+    ensures { result ≡ list_all (of_main (test_of test)) (drop first script.now.main) }
+{
+    'lines: for line in first..MOST_LINES {
+        let Some(op) = script.main_op(line) else {
+            return true;
+        };
+        if !of_main(test, op) {
             return false;
         }
     }

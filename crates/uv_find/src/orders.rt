@@ -1,5 +1,5 @@
 //! A session that goes on by what is offered, and back.
-ghost use Rattle.std.specs.Prelude.{◌≡◌, ◌∷◌, ◌++◌, ◌<◌, ◌≤◌, ◌+◌, [], OnOk, reverse, length, IfOk, None, true, vec_len, vec_capacity};
+ghost use Rattle.std.specs.Prelude.{◌≡◌, ◌∷◌, ◌++◌, ◌<◌, ◌≤◌, ◌+◌, ◌-◌, [], OnOk, reverse, length, IfOk, IfSome, None, true, vec_len, vec_capacity};
 ghost use Rattle.uv_model.specs.After.{after, STEPS};
 ghost use Rattle.uv_key.specs.Codes.{number_code};
 ghost use Rattle.uv_asking.specs.Asked.{asked_in};
@@ -7,6 +7,9 @@ ghost use Rattle.uv_asking.specs.declared.asking.Question.TheVariants.{Stuck};
 ghost use Rattle.std.specs.Prelude.{slice_get};
 ghost use Rattle.uv_find.specs.Holding.{asks_late, is_at_will, are_all_at_will, are_at_will};
 ghost use Rattle.uv_find.specs.Kept.{kept_after};
+ghost use Rattle.uv_find.specs.Mates.{are_run_alike, is_covered, is_covered_by};
+ghost use Rattle.uv_find.specs.Ranks.{runner};
+ghost use Rattle.uv_script.specs.Program.{worker_count};
 ghost use Rattle.uv_find.specs.Orders.{asked_late, is_blocked, led, move_count};
 ghost use Rattle.uv_find.specs.Questions.{none_leads, line_answers, place_answers, step_answers};
 ghost use Rattle.uv_find.specs.Spots.{Searched, IsSearched, IsStanding, is_loop_first, is_take_first, searched, rules_of, first_spot, kind_code, event_code, each_code, left_code, along_code, told_due, kept_code, next_spot, spot_code, left_before, IsDeep};
@@ -18,6 +21,7 @@ use crate::choices::{Moved, is_idle, lessen, make_move, make_offer};
 use crate::holding::is_loop_apart;
 use crate::kept::{Along, Kept, kept_after, none_kept, owes};
 use crate::left::Left;
+use crate::mates::{are_run_alike, later_rank};
 use crate::questions::{has_ended, is_uncalled, line_answers};
 use crate::steps::{is_blocked, take_back};
 use crate::terms::{Terms, move_count, terms_of};
@@ -30,6 +34,7 @@ use uv_key::{push_number, put_number};
 use uv_model::{Machine, Outcome, STEPS};
 use uv_search::{Maze, Went};
 use uv_session::Session;
+use uv_slots::names_change_places;
 use uv_state_key::push_key;
 use uv_work::WorkResult;
 
@@ -310,12 +315,48 @@ impl<M: Machine> Orders<M> {
     fn is_take_first(&self) -> bool
         ensures { result ≡ is_take_first self.now.rules self.now.spot.place }
     {
-        self.terms.at_once
-            && are_at_will(
-                self.session.machine().script().workers() as usize + 2,
-                &self.left,
-            )
-            && !owes(self.kept)
+        self.terms.at_once && self.are_first_at_will() && !owes(self.kept)
+    }
+
+    /// Whether the take, the loop's step and the finishes may be taken as often as one likes.
+    fn are_first_at_will(&self) -> bool
+        ensures { result ≡ are_at_will (worker_count self.now.rules.program + 2) self.now.spot.place.left }
+    {
+        are_at_will(
+            self.session.machine().script().workers() as usize + 2,
+            &self.left,
+        )
+    }
+
+    /// Whether the workers of this rank and of the one before run requests that are alike.
+    fn runs_alike(&self, rank: u16) -> bool
+        requires { 0 < rank }
+        ensures { let s = self.now.spot.place.state
+            in result ≡ are_run_alike self.now.rules s (runner s (rank - 1)) (runner s rank) }
+    {
+        are_run_alike(self.session.machine(), &self.terms, rank)
+    }
+
+    /// Whether a request of this rank is run, and one like it of the rank before.
+    fn is_covered_by(&self, rank: Option<u16>) -> bool
+        requires { IfSome rank (λ rank. 0 < rank) }
+        ensures { result ≡ is_covered_by self.now.rules self.now.spot.place rank }
+    {
+        match rank {
+            None => false,
+            Some(rank) => self.are_first_at_will() && self.runs_alike(rank),
+        }
+    }
+
+    /// Whether the move of this number finishes a request of which one like it, of the rank before, is run too.
+    fn is_covered_here(&self, number: usize) -> bool
+        ensures { result ≡ is_covered self.now.rules self.now.spot.place number }
+    {
+        if !self.terms.at_once || self.terms.mates.is_empty() {
+            return false;
+        }
+        let workers = self.session.machine().script().workers();
+        self.is_covered_by(later_rank(workers, number))
     }
 
     /// What is kept of a timer's due time.
@@ -505,6 +546,8 @@ impl<M: Machine> Maze for Orders<M> {
 
     ghost apart = { spots.apart };
 
+    ghost covered = { spots.covered };
+
     ghost IsTold = { spots.IsTold };
 
     ghost HasRoom = { spots.HasRoom };
@@ -519,6 +562,10 @@ impl<M: Machine> Maze for Orders<M> {
         } else {
             number == 0 && self.is_take_first()
         }
+    }
+
+    fn is_covered(&self, number: usize) -> bool {
+        self.is_covered_here(number)
     }
 
     fn go(&mut self, number: usize) -> Result<Went, AllocError> {
@@ -555,5 +602,7 @@ impl<M: Machine> Maze for Orders<M> {
         push_kept(out, due, self.kept.owed, self.kept.along)
     }
 
-    fn laws() {}
+    fn laws() {
+        names_change_places();
+    }
 }

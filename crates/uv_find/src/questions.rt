@@ -81,7 +81,7 @@ pub fn is_uncalled<M: Machine>(machine: &M, name: Var) -> bool
 }
 
 /// The name that an op names.
-fn op_name(op: Op) -> Option<Var>
+pub(crate) fn op_name(op: Op) -> Option<Var>
     ensures { result ≡ op_name op }
 {
     match op {

@@ -9,6 +9,7 @@ use crate::beginning::{every_offer, may_wait};
 use crate::forgetting::forget_of;
 use crate::holding::hold_of;
 use crate::left::Left;
+use crate::mates::mates_in;
 use std::alloc::{AllocError, Global};
 use uv_asking::{Asking, Most, Offered, Question, Recorded, Takes};
 use uv_script::Script;
@@ -32,6 +33,8 @@ pub struct Terms {
     pub hold: Option<bool>,
     /// Whether a worker takes a request at once, since what else may come can't tell when it does.
     pub at_once: bool,
+    /// Of each name, whether it is like the next one.
+    pub mates: Vec<bool>,
 }
 
 /// The terms of what is asked of a script.
@@ -46,6 +49,7 @@ pub(crate) fn terms_of(alloc: Global, script: &Script, asking: &Asking) -> Resul
     takes.extend_from_slice(&asking.takes)?;
     let mut most = Vec::new(alloc);
     most.extend_from_slice(&asking.most)?;
+    let mates = mates_in(alloc, script, asking, at_once)?;
     Ok(Terms {
         offers,
         differ: asking.differ,
@@ -58,6 +62,7 @@ pub(crate) fn terms_of(alloc: Global, script: &Script, asking: &Asking) -> Resul
         forget: forget_of(script, asking),
         hold: hold_of(asking),
         at_once,
+        mates,
     })
 }
 

@@ -5,7 +5,7 @@ use Rattle.std.specs.List.{AllByRecursion, IsDistinct}
 use Rattle.std.specs.Cmp.Lexicographic.{pointwise, bytes_decides, nat_list_eq_equiv}
 use Rattle.uv_search.specs.Cuts.{IsCut, IsEntered, IsOnce, KeepsNumbers, joined}
 use Rattle.uv_search.specs.Keys.{Has}
-use Rattle.uv_search.proofs.KeyLists.{get_below, get_before, get_either, has_at, number_of, map_last}
+use Rattle.uv_search.proofs.KeyLists.{get_below, get_before, get_either, number_of, map_last}
 use Rattle.uv_search.proofs.Linking.{get_map}
 
 one_value : {X : Type 0} {x y : X} → Some x ≡ Some y → x ≡ y

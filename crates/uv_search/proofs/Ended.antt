@@ -7,7 +7,7 @@ use Rattle.uv_search.specs.Ways.{LeadTo, Answers, CoversMoves, CoversStep, IsApa
 use Rattle.uv_search.specs.Settled.{AllLead, OneLeads, Never, HoldsNone}
 use Rattle.uv_search.proofs.KeyLists.{number_of}
 use Rattle.uv_search.proofs.Held.{Ends, ends_by, same_step, room_for, ends_alike, ends_behind}
-use Rattle.uv_search.proofs.Standing.{Tried, Done, IsDone, Keeps, here_done, none_made, are_keys}
+use Rattle.uv_search.proofs.Standing.{Done, IsDone, Keeps, here_done, none_made, are_keys}
 
 module _ {P : Type 0} (moves : P → ℕ) (next : P → ℕ → Option (P × Bool)) (key : P → List ℕ) (IsPlace IsDeep : P → Type 0) (apart covered : P → ℕ → Bool)
     (begin : P) (first : List P) (seen : List (List ℕ)) where

@@ -2,6 +2,7 @@ use Rattle.uv_find.proofs.Led.{spots_lead}
 use Rattle.uv_find.proofs.Covering.{spots_alike, few_standing}
 use Rattle.uv_find.proofs.Meeting.{room_standing, room_fewer, room_follows, room_same}
 use Rattle.uv_find.proofs.AtOnce.{apart_meets}
+use Rattle.uv_find.proofs.Covered.{covers_moves}
 use Rattle.uv_find.proofs.orders.OrdersMaze.laws.Goals as goal
 
 pub returns-clause-alike : goal.returns-clause-alike
@@ -24,3 +25,6 @@ returns-clause-same g c = room_same
 
 pub returns-clause-meet : goal.returns-clause-meet
 returns-clause-meet g c = apart_meets
+
+pub returns-clause-covers : goal.returns-clause-covers
+returns-clause-covers g c = covers_moves c.names_change_places.ensures

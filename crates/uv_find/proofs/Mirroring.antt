@@ -1,0 +1,483 @@
+-- Where workers run two requests that are alike, what answers behind the second one's finish answers as soon behind that of the first one.
+use Rattle.std.proofs.Common.{◌≡◌, ℕ, zero, suc, ◌+◌, ◌<◌, ◌≤◌, ◌==◌, ◌&&◌, not, Bool, true, false, List, [], ◌∷◌, ◌++◌, length, slice_get, slice_set, nat_lt, nat_le, if◌then◌else◌, refl, ap, ap₂, sym, subst, ◌∙◌, Option, Some, None, arith}
+use Rattle.std.specs.Prelude.{option_map}
+use Rattle.std.specs.List.{list_all}
+use Rattle.std.proofs.lemmas.Bool.{and_parts, ltb-true}
+use Rattle.std.proofs.lemmas.Option.{none-some, same_Some}
+use Rattle.uv_ids.specs.declared.event.Event.{Event}
+use Rattle.uv_ids.specs.declared.event.Event.TheVariants.{Loop, Take, Finish, Cancel, Send, Io, Tick}
+use Rattle.uv_ids.specs.declared.id.Id.{Id}
+use Rattle.uv_ids.specs.declared.id.Var.{Var}
+use Rattle.uv_ids.specs.declared.seen.Callback.{Callback}
+use Rattle.uv_ids.specs.declared.seen.Callback.TheVariants as callback
+use Rattle.uv_ids.specs.declared.seen.Seen.{Seen}
+use Rattle.uv_ids.specs.declared.seen.Seen.TheVariants as seen
+use Rattle.uv_ids.specs.declared.seen.Site.TheVariants as site
+use Rattle.uv_script.specs.Program.{Program, worker_count, is_for}
+use Rattle.uv_records.specs.Names.{count_of}
+use Rattle.uv_records.specs.declared.named.Named.{Named}
+use Rattle.uv_model.specs.After.{after}
+use Rattle.uv_model.specs.Bounds.{line_of}
+use Rattle.uv_model.specs.Next.{Next, Moves, Refuses, next}
+use Rattle.uv_model.specs.State.{State, named}
+use Rattle.uv_model.specs.declared.place.Place as loop
+use Rattle.uv_model.specs.declared.place.Place.TheVariants.{Main, Running}
+use Rattle.uv_order.specs.Active.{run_ids, AreDistinct}
+use Rattle.uv_order.proofs.Documents.{holds_after}
+use Rattle.uv_order.proofs.Reaching.{reached}
+use Rattle.uv_shift.specs.Shift.{ClockFits}
+use Rattle.uv_session.specs.Breaks.{answers_code, begins_section, begins_poll}
+use Rattle.uv_alike.specs.Changed.{changed_event, changed_line, changed_place}
+use Rattle.uv_slots.specs.Alike.{moved_var, by_names}
+use Rattle.uv_slots.specs.Arranged.{place_of}
+use Rattle.uv_slots.proofs.Orders.{same_place}
+use Rattle.uv_pooled.proofs.Given.{has_at}
+use Rattle.uv_asking.specs.declared.asking.Most.{Most}
+use Rattle.uv_asking.specs.declared.asking.Offer.{Offer}
+use Rattle.uv_asking.specs.declared.asking.Offer.TheVariants as offers
+use Rattle.uv_asking.specs.declared.asking.Offered.{Offered}
+use Rattle.uv_asking.specs.declared.asking.Question.{Question}
+use Rattle.uv_asking.specs.declared.asking.Question.TheVariants as asks
+use Rattle.uv_asking.specs.declared.asking.Recorded.{Recorded}
+use Rattle.uv_asking.specs.declared.asking.Which.{Which}
+use Rattle.uv_asking.specs.declared.asking.Which.TheVariants as which
+use Rattle.uv_find.specs.declared.kept.Along.{Along}
+use Rattle.uv_find.specs.declared.kept.Kept.{Kept}
+use Rattle.uv_find.specs.declared.left.Left.{Left}
+use Rattle.uv_find.specs.declared.left.Left.TheVariants as left
+use Rattle.uv_find.specs.Holding.{are_at_will, is_clear_of_takes}
+use Rattle.uv_find.specs.Kept.{kept_due, is_over, time_at_end, takes_time, owed_by, owed_after, is_poll, nearer, arrived, along_after, kept_after}
+use Rattle.uv_find.specs.Mates.{offer_spares, main_spares, question_spares}
+use Rattle.uv_find.specs.Ops.{is_beside}
+use Rattle.uv_find.specs.Orders.{Rules, Place, Led, led, at_will, lessened, lessened_by, move_count, offered_by, brief, is_called_within, is_within}
+use Rattle.uv_find.specs.Questions.{begun, is_which, is_call, is_uncalled, answered_name, name_in, is_name, is_of, answers_line, line_answers, has_ended, place_answers, answers}
+use Rattle.uv_find.specs.Ranks.{rank_of, runner, finish_by}
+use Rattle.uv_find.specs.Spots.{Spot, CanForget, CanTakeAtOnce, AreMates, IsSpot, is_few}
+use Rattle.uv_find.proofs.Alike.{GoesRegular, IsGoing, spot_going}
+use Rattle.uv_find.proofs.AtOnce.{will_of, wills_stay, not_less, shown, at_will_is, finish_shown}
+use Rattle.uv_find.proofs.Finishing.{rank_runs}
+use Rattle.uv_find.proofs.Led.{each, event_at, led_leads, leads_spot, state_behind}
+use Rattle.uv_find.proofs.MainLines.{StaysPast, next_past}
+use Rattle.uv_find.proofs.Meeting.{IsLed, led_is}
+use Rattle.uv_find.proofs.Moving.{after_event}
+use Rattle.uv_find.proofs.Mirrored.{NamesChange, mirrored, mirrored_next, mirrored_regular, named_same, next_mirrored}
+use Rattle.uv_find.proofs.Runners.{after_long, rank_below, rank_slot}
+use Rattle.uv_find.proofs.Swap.{swap, swap_order, twice_stays}
+use Rattle.uv_find.proofs.Turned.{IsFree, IsPlain, plain_stays, are_alike, lines_moved, offered_same, offered_plain, spares_further}
+use Rattle.uv_find.proofs.Twins.{beside_stays}
+
+abbrev pub mirror : ℕ → Place → Place
+mirror a q = record q { state = mirrored a q.state }
+
+abbrev pub turned_line : ℕ → Program → Option Seen → Option Seen
+turned_line a p line = option_map (changed_line (by_names (swap a)) p) line
+
+abbrev pub mirror_led : ℕ → Program → Led → Led
+mirror_led a p l = record { event = l.event; place = mirror a l.place; line = turned_line a p l.line }
+
+twice_event : (a : ℕ) (e : Event) → changed_event (by_names (swap a)) (changed_event (by_names (swap a)) e) ≡ e
+twice_event a Loop = refl
+twice_event a (Take k) = refl
+twice_event a (Finish k) = refl
+twice_event a (Cancel v) = λ i. Cancel (record { 0 = twice_stays a v.0 i })
+twice_event a (Send v) = λ i. Send (record { 0 = twice_stays a v.0 i })
+twice_event a (Io v) = λ i. Io (record { 0 = twice_stays a v.0 i })
+twice_event a (Tick ms) = refl
+
+fits_same : (a : ℕ) (s : State) (e : Event) → ClockFits s e → ClockFits (mirrored a s) e
+fits_same a s Loop h = h
+fits_same a s (Take k) h = h
+fits_same a s (Finish k) h = h
+fits_same a s (Cancel v) h = h
+fits_same a s (Send v) h = h
+fits_same a s (Io v) h = h
+fits_same a s (Tick ms) h = h
+
+will_same : (xs : List Left) (i : ℕ) → slice_get xs i ≡ Some left.AtWill → lessened xs i ≡ xs
+will_same xs i at = ap (lessened_by xs i) at ∙ set_same xs i at where
+  set_same : (xs : List Left) (i : ℕ) → slice_get xs i ≡ Some left.AtWill → slice_set xs i left.AtWill ≡ xs
+  set_same [] i at = absurd (none-some left.AtWill at)
+  set_same (x ∷ xs) zero at = ap (λ (y : Left). y ∷ xs) (sym (same_Some x left.AtWill at))
+  set_same (x ∷ xs) (suc i) at = ap (λ (ys : List Left). x ∷ ys) (set_same xs i at)
+
+-- ---- what is kept
+
+no_time : (s : State) (b : Callback × Var) → time_at_end [] s b ≡ 0
+no_time s b = by (takes_time b.0 && is_over s.place) where
+  by : (c : Bool) → ◌≡◌ {A = ℕ} (if c then 0 else 0) 0
+  by true = refl
+  by false = refl
+
+owed_same : (a owed : ℕ) (p : Program) (t : State) (line : Option Seen)
+    → owed_after [] owed (mirrored a t) (turned_line a p line) ≡ owed_after [] owed t line
+owed_same a owed p t None = refl
+owed_same a owed p t (Some l) = by l where
+  both : (b c : Callback × Var) → time_at_end [] (mirrored a t) b ≡ time_at_end [] t c
+  both b c = no_time (mirrored a t) b ∙ sym (no_time t c)
+
+  by : (l : Seen) → owed_by [] owed (mirrored a t) (changed_line (by_names (swap a)) p l) ≡ owed_by [] owed t l
+  by (seen.Op (site.Main line) x) = refl
+  by (seen.Op (site.In kind v line) x) = both (kind, moved_var (swap a) v) (kind, v)
+  by (seen.Call v id) = both (callback.Handle, moved_var (swap a) v) (callback.Handle, v)
+  by (seen.Io v id) = both (callback.Handle, moved_var (swap a) v) (callback.Handle, v)
+  by (seen.After digest v id) = both (callback.After, moved_var (swap a) v) (callback.After, v)
+  by (seen.Closed v id) = both (callback.Close, moved_var (swap a) v) (callback.Close, v)
+  by l = refl
+
+poll_same : (a : ℕ) (p : Program) (line : Option Seen) → is_poll (turned_line a p line) ≡ is_poll line
+poll_same a p None = refl
+poll_same a p (Some (seen.Poll timeout)) = refl
+poll_same a p (Some l) = grind arith
+
+along_same : (a : ℕ) (p : Program) (recorded : List Recorded) (along : Along) (e : Event) (line : Option Seen)
+    → along_after recorded along e (turned_line a p line) ≡ along_after recorded along e line
+along_same a p recorded along Loop line = ap (λ b. arrived recorded (nearer along b)) (poll_same a p line)
+along_same a p recorded along (Take k) line = refl
+along_same a p recorded along (Finish k) line = refl
+along_same a p recorded along (Cancel v) line = refl
+along_same a p recorded along (Send v) line = refl
+along_same a p recorded along (Io v) line = refl
+along_same a p recorded along (Tick ms) line = refl
+
+due_same : (a due : ℕ) (t : State) (q : Question) → question_spares a q ≡ true → kept_due q (mirrored a t) due ≡ kept_due q t due
+due_same a due t (asks.Late name ms) e = absurd (let f : false ≡ true = e in cc)
+due_same a due t (asks.Call w name call) e = refl
+due_same a due t (asks.Code code name) e = refl
+due_same a due t (asks.Section word) e = refl
+due_same a due t asks.Poll e = refl
+due_same a due t (asks.Never name) e = refl
+due_same a due t asks.Stuck e = refl
+due_same a due t (asks.Before name other) e = refl
+due_same a due t (asks.Behind name other) e = refl
+
+-- ---- what a line answers
+
+module _ (a : ℕ) (p : Program) where
+  abbrev turned : Seen → Seen
+  turned l = changed_line (by_names (swap a)) p l
+
+  abbrev moved_call : Callback × Var → Callback × Var
+  moved_call b = (b.0, moved_var (swap a) b.1)
+
+  begun_same : (l : Seen) → begun (turned l) ≡ option_map moved_call (begun l)
+  begun_same (seen.Call v id) = refl
+  begun_same (seen.Io v id) = refl
+  begun_same (seen.After digest v id) = refl
+  begun_same (seen.Closed v id) = refl
+  begun_same (seen.Op at x) = refl
+  begun_same l = grind arith
+
+  code_same : (code : _) (l : Seen) → answers_code code (turned l) ≡ answers_code code l
+  code_same code l = grind arith
+
+  section_same : (word : _) (l : Seen) → begins_section word (turned l) ≡ begins_section word l
+  section_same word l = grind arith
+
+  begins_poll_same : (l : Seen) → begins_poll (turned l) ≡ begins_poll l
+  begins_poll_same l = grind arith
+
+  same_var : (v name : Var) → is_beside a (Some name) ≡ true → (place_of (swap a) v.0 == name.0) ≡ (v.0 == name.0)
+  same_var v name e =
+      ap (λ n. place_of (swap a) v.0 == n) (sym (beside_stays a name e)) ∙ same_place (swap a) v.0 name.0 (swap_order a)
+
+  module _ (t : State) (wide : a + 2 ≤ length t.names) where
+    named_as : (name : Var) → is_beside a (Some name) ≡ true → named (mirrored a t) name ≡ named t name
+    named_as name e = named_same a t wide name (beside_stays a name e)
+
+    call_same : (w : Which) (name : Var) (call : Option ℕ) → is_beside a (Some name) ≡ true → (x : Option (Callback × Var))
+        → is_call w name call (mirrored a t) (option_map moved_call x) ≡ is_call w name call t x
+    call_same w name call e None = refl
+    call_same w name call e (Some b) =
+        ap₂ (λ c (n : Named). is_which w b.0 && c && is_for (count_of b.0 n.calls) call) (same_var b.1 name e) (named_as name e)
+
+    begins_same : (w : Which) (name : Var) (call : Option ℕ) → is_beside a (Some name) ≡ true → (l : Seen)
+        → is_call w name call (mirrored a t) (begun (turned l)) ≡ is_call w name call t (begun l)
+    begins_same w name call e l = ap (is_call w name call (mirrored a t)) (begun_same l) ∙ call_same w name call e (begun l)
+
+    uncalled_same : (name : Var) → is_beside a (Some name) ≡ true → is_uncalled (mirrored a t) name ≡ is_uncalled t name
+    uncalled_same name e = ap (λ (n : Named). (n.calls.handle == 0) && (n.calls.after == 0) && (n.calls.close == 0)) (named_as name e)
+
+    called_within_same : (m : Most) → is_beside a (Some m.name) ≡ true → is_called_within (mirrored a t) m ≡ is_called_within t m
+    called_within_same m e =
+        ap (λ (n : Named). nat_le n.calls.handle m.calls && nat_le n.calls.after m.calls && nat_le n.calls.close m.calls) (named_as m.name e)
+
+    within_same : (most : List Most) → list_all (λ (m : Most). is_beside a (Some m.name)) most ≡ true
+        → is_within most (mirrored a t) ≡ is_within most t
+    within_same [] e = refl
+    within_same (m ∷ ms) e =
+        let parts = and_parts (is_beside a (Some m.name)) (list_all (λ (m : Most). is_beside a (Some m.name)) ms) e in
+        ap₂ (λ x y. x && y) (called_within_same m parts.0) (within_same ms parts.1)
+
+module _ (r : Rules) (a : ℕ) (mates : AreMates r a) where
+  name_same : (name : Var) → is_beside a (Some name) ≡ true → (l : Seen)
+      → is_name name (answered_name r.program (turned a r.program l)) ≡ is_name name (answered_name r.program l)
+  name_same name e (seen.Op (site.Main line) x) = refl
+  name_same name e (seen.Op (site.In kind v line) x) =
+      ap (λ ls. is_name name (name_in (option_map (λ l. l.op) (slice_get ls line)))) (lines_moved r a mates kind v)
+  name_same name e (seen.After digest v id) = same_var a r.program v name e
+  name_same name e (seen.Cancel v x) = same_var a r.program v name e
+  name_same name e (seen.Send v code) = same_var a r.program v name e
+  name_same name e l = grind arith
+
+  of_same : (name : Option Var) → is_beside a name ≡ true → (l : Seen)
+      → is_of name (answered_name r.program (turned a r.program l)) ≡ is_of name (answered_name r.program l)
+  of_same None e l = refl
+  of_same (Some name) e l = name_same name e l
+
+  module _ (t : State) (wide : a + 2 ≤ length t.names) (due : ℕ) where
+    line_same : (q : Question) → question_spares a q ≡ true → (l : Seen)
+        → answers_line r.program q due (mirrored a t) (turned a r.program l) ≡ answers_line r.program q due t l
+    line_same (asks.Call w name call) e l = begins_same a r.program t wide w name call e l
+    line_same (asks.Code code name) e l = ap₂ (λ x y. x && y) (code_same a r.program code l) (of_same name e l)
+    line_same (asks.Section word) e l = section_same a r.program word l
+    line_same asks.Poll e l = begins_poll_same a r.program l
+    line_same (asks.Never name) e l = refl
+    line_same asks.Stuck e l = refl
+    line_same (asks.Late name ms) e l = absurd (let f : false ≡ true = e in cc)
+    line_same (asks.Before name other) e l =
+        let parts = and_parts (is_beside a (Some name)) (is_beside a (Some other)) e in
+        ap₂ (λ x y. x && y) (begins_same a r.program t wide which.Any name None parts.0 l) (uncalled_same a r.program t wide other parts.1)
+    line_same (asks.Behind name other) e l =
+        let parts = and_parts (is_beside a (Some name)) (is_beside a (Some other)) e in
+        ap₂ (λ x y. x && not y) (begins_same a r.program t wide which.Any name None parts.0 l) (uncalled_same a r.program t wide other parts.1)
+
+    lines_answer : (line : Option Seen)
+        → line_answers r.program r.question due (mirrored a t) (turned_line a r.program line) ≡ line_answers r.program r.question due t line
+    lines_answer None = refl
+    lines_answer (Some l) = line_same r.question mates.question l
+
+  ended_same : (q : loop.Place) → has_ended r.program (changed_place (by_names (swap a)) q) ≡ has_ended r.program q
+  ended_same (Main line) = refl
+  ended_same (Running run) = refl
+
+  place_same : (q : Place) → a + 2 ≤ length q.state.names → (question : Question) → question_spares a question ≡ true
+      → place_answers r (mirror a q) question ≡ place_answers r q question
+  place_same q wide (asks.Never name) e =
+      ap₂ (λ x y. x && y) (ended_same q.state.place) (uncalled_same a r.program q.state wide name e)
+  place_same q wide asks.Stuck e = absurd (let f : false ≡ true = e in cc)
+  place_same q wide (asks.Call w name call) e = refl
+  place_same q wide (asks.Code code name) e = refl
+  place_same q wide (asks.Section word) e = refl
+  place_same q wide asks.Poll e = refl
+  place_same q wide (asks.Late name ms) e = refl
+  place_same q wide (asks.Before name other) e = refl
+  place_same q wide (asks.Behind name other) e = refl
+
+  answers_same : (q : Place) (l : Led) → a + 2 ≤ length l.place.state.names
+      → answers r (mirror a q) (mirror_led a r.program l) ≡ answers r q l
+  answers_same q l wide =
+      ap₂ (λ x y. if x then true else y) (lines_answer l.place.state wide q.kept.due l.line) (place_same l.place wide r.question mates.question)
+
+-- ---- what is kept, in one
+
+kept_same : (r : Rules) (a : ℕ) → AreMates r a → r.takes ≡ [] → (k : Kept) (e : Event) (t : State) (line : Option Seen)
+    → kept_after r.recorded r.takes r.question k e (mirrored a t) (turned_line a r.program line)
+    ≡ kept_after r.recorded r.takes r.question k e t line
+kept_same r a mates none k e t line =
+    let owed : owed_after r.takes k.owed (mirrored a t) (turned_line a r.program line) ≡ owed_after r.takes k.owed t line =
+    subst (λ ts. owed_after ts k.owed (mirrored a t) (turned_line a r.program line) ≡ owed_after ts k.owed t line) (sym none)
+    (owed_same a k.owed r.program t line) in
+    let due = due_same a k.due t r.question mates.question in
+    let along = along_same a r.program r.recorded k.along e line in
+    λ i. record { due = due i; owed = owed i; along = along i }
+
+-- ---- where the names have changed places
+
+module _ (change : NamesChange) (r : Rules) (a : ℕ) (mates : AreMates r a) (take : CanTakeAtOnce r) (may : CanForget r take.counted) where
+  -- the names may change places here, and wherever steps lead
+  pub record CanMirror (q : Spot) : Type 0 where
+    pub spot : IsSpot r q
+    pub clear : main_spares a r.program q.place.state.place ≡ true
+    pub wills : are_at_will (worker_count r.program + 2) q.place.left ≡ true
+
+  wide_after : (es : List Event) (t : State) → t ≡ after r.program es → a + 2 ≤ length t.names
+  wide_after es t is =
+      let long : length t.names ≡ length r.program.callbacks =
+      ap (λ (u : State). length u.names) is ∙ (holds_after r.program es).holds.stands.counted.long in
+      let within = mates.within in
+      omega (arith, long, within)
+
+  pub wide : (q : Spot) → IsSpot r q → a + 2 ≤ length q.place.state.names
+  wide q is = wide_after q.steps q.place.state is.state
+
+  goes_regular : (q : Spot) → IsSpot r q → (e : Event) (x : Next) → next r.program q.place.state e ≡ x → GoesRegular r.program x
+      → GoesRegular r.program (mirrored_next r.program a x)
+  goes_regular q is e (Moves t line) goes h =
+      mirrored_regular a t (wide_after (q.steps ++ e ∷ []) t (state_behind r q e t line is goes)) r.program h
+  goes_regular q is e (Refuses why) goes h = tt
+
+  pub mirror_going : (q : Spot) → CanMirror q → IsGoing r.program take.counted (mirror a q.place)
+  mirror_going q can =
+      let going = spot_going r take.counted take.forgets may q can.spot in
+      record {
+        regular = mirrored_regular a q.place.state (wide q can.spot) r.program going.regular;
+        fits = λ e short. fits_same a q.place.state e (going.fits e short);
+        leads = λ e.
+            let back = changed_event (by_names (swap a)) e in
+            subst (λ f. GoesRegular r.program (next r.program (mirrored a q.place.state) f)) (twice_event a e)
+            (subst (GoesRegular r.program)
+            (sym (next_mirrored a change r.program q.place.state back (are_alike r a mates q.place.state (wide q can.spot) can.clear)))
+            (goes_regular q can.spot back (next r.program q.place.state back) refl (going.leads back)));
+      }
+
+  -- ---- a move there is one here, it may be by another number
+
+  pub record Turns (q : Spot) (i : ℕ) (e : Event) : Type 0 where
+    pub number : ℕ
+    pub offered : event_at r (mirror a q.place) number ≡ Some e
+    pub left : lessened q.place.left number ≡ lessened q.place.left i
+    pub plain : changed_event (by_names (swap a)) e ≡ e
+
+  free_turns : (q : Spot) → CanMirror q → (i : ℕ) (o : Offered) (e : Event) → slice_get r.offers i ≡ Some o → IsFree o.offer
+      → offer_spares a o.offer ≡ true → event_at r q.place i ≡ Some e → Turns q i e
+  free_turns q can i o e at free spares is = record {
+    number = i;
+    offered = ap (λ x. if nat_lt i (move_count r q.place) then x else None)
+        (ap (λ y. offered_by r (mirror a q.place) y (slice_get q.place.left i)) at
+        ∙ offered_same change r a mates q.place.state q.place.kept (wide q can.spot) can.clear q.place.left o (slice_get q.place.left i) free spares
+        ∙ sym (ap (λ y. offered_by r q.place y (slice_get q.place.left i)) at)) ∙ is;
+    left = refl;
+    plain = plain_stays a e (by (nat_lt i (move_count r q.place)) is);
+  }
+    where
+      by : (b : Bool) → (if b then offered_by r q.place (slice_get r.offers i) (slice_get q.place.left i) else None) ≡ Some e → IsPlain a (Some e)
+      by false h = absurd (none-some e h)
+      by true h = subst (IsPlain a) h (subst (λ y. IsPlain a (offered_by r q.place y (slice_get q.place.left i))) (sym at)
+          (offered_plain change r a mates q.place.state q.place.kept (wide q can.spot) can.clear q.place.left o (slice_get q.place.left i) free
+          spares))
+
+  -- a worker finishes what it runs, which has another rank there
+  pub rank_there : (q : Spot) → CanMirror q → (w : ℕ) (id : Id) → slice_get q.place.state.running w ≡ Some (Some id)
+      → (runner (mirrored a q.place.state) (rank_of (mirrored a q.place.state) id) ≡ Some w)
+      × (rank_of (mirrored a q.place.state) id < worker_count r.program)
+  rank_there q can w id there =
+      let s = q.place.state in
+      let opened : AreDistinct (s.waiting ++ run_ids s.running) =
+      subst (λ (u : State). AreDistinct (u.waiting ++ run_ids u.running)) (sym can.spot.state) (reached r.program q.steps).opened.distinct in
+      let regular = (mirror_going q can).regular in
+      let long : length s.running ≡ worker_count r.program =
+      ap (λ (u : State). length u.running) can.spot.state ∙ after_long r.program q.steps in
+      let below = rank_below (mirrored a s) w id there in (
+        rank_runs (mirrored a s) opened (λ k x at. regular.young.opened x (has_at s.waiting s.running k x at)) w id there,
+        subst (λ m. rank_of (mirrored a s) id < m) long below,
+      )
+
+  pub finish_turns : (q : Spot) → CanMirror q → (k w : ℕ) (id : Id) → k < worker_count r.program → slice_get q.place.state.running w ≡ Some (Some id)
+      → Turns q (suc (suc k)) (Finish w)
+  finish_turns q can k w id below there =
+      let rank = rank_of (mirrored a q.place.state) id in
+      let found = rank_there q can w id there in
+      let within : suc (suc rank) < worker_count r.program + 2 = (let l = found.1 in omega (arith, l)) in
+      let will = will_of (worker_count r.program + 2) q.place.left (suc (suc rank)) can.wills within in
+      let here = will_of (worker_count r.program + 2) q.place.left (suc (suc k)) can.wills (omega (arith, below)) in
+      record {
+        number = suc (suc rank);
+        offered = at_will_is r take may (mirror a q.place) (suc (suc rank)) (offers.Step (Finish rank)) (take.finishes rank found.1) will
+            ∙ finish_shown r take may (mirror a q.place) rank w found.0;
+        left = will_same q.place.left (suc (suc rank)) will ∙ sym (will_same q.place.left (suc (suc k)) here);
+        plain = refl;
+      }
+
+  pub finish_number : (q : Spot) (can : CanMirror q) (k w : ℕ) (id : Id) (below : k < worker_count r.program)
+      (there : slice_get q.place.state.running w ≡ Some (Some id))
+      → (finish_turns q can k w id below there).number ≡ suc (suc (rank_of (mirrored a q.place.state) id))
+  unfolding finish_turns
+  finish_number q can k w id below there = refl
+
+  clear_free : (offer : Offer) → is_clear_of_takes offer ≡ true → IsFree offer
+  clear_free (offers.Step Loop) e = tt
+  clear_free (offers.Step (Take k)) e = tt
+  clear_free (offers.Step (Finish k)) e = absurd (let f : false ≡ true = e in cc)
+  clear_free (offers.Step (Cancel v)) e = tt
+  clear_free (offers.Step (Send v)) e = tt
+  clear_free (offers.Step (Io v)) e = tt
+  clear_free (offers.Step (Tick ms)) e = tt
+  clear_free (offers.SendDuring v job) e = absurd (let f : false ≡ true = e in cc)
+  clear_free offers.Take e = tt
+  clear_free offers.Wait e = tt
+  clear_free (offers.WaitFor ms) e = tt
+
+  pub finish_event : (q : Spot) → CanMirror q → (k : ℕ) (e : Event) → k < worker_count r.program → event_at r q.place (suc (suc k)) ≡ Some e
+      → (w : ℕ) × (runner q.place.state k ≡ Some w) × (e ≡ Finish w)
+  finish_event q can k e below is = by (runner q.place.state k) refl (sym shows ∙ is) where
+    shows : event_at r q.place (suc (suc k)) ≡ shown r take may q.place (offers.Step (Finish k))
+    shows = at_will_is r take may q.place (suc (suc k)) (offers.Step (Finish k)) (take.finishes k below)
+        (will_of (worker_count r.program + 2) q.place.left (suc (suc k)) can.wills (omega (arith, below)))
+
+    by : (o : Option ℕ) → runner q.place.state k ≡ o → brief (Some take.counted) (finish_by o) ≡ Some e
+        → (w : ℕ) × (runner q.place.state k ≡ Some w) × (e ≡ Finish w)
+    by None run h = absurd (none-some e h)
+    by (Some w) run h = (w, run, sym (same_Some (Finish w) e h))
+
+  offered_there : (q : Place) (i : ℕ) (e : Event) → event_at r q i ≡ Some e → (o : Offered) × (slice_get r.offers i ≡ Some o)
+  offered_there q i e is = by (nat_lt i (move_count r q)) (slice_get r.offers i) refl is where
+    by : (b : Bool) (o : Option Offered) → slice_get r.offers i ≡ o → (if b then offered_by r q o (slice_get q.left i) else None) ≡ Some e
+        → (o : Offered) × (slice_get r.offers i ≡ Some o)
+    by false o at h = absurd (none-some e h)
+    by true None at h = absurd (none-some e h)
+    by true (Some o) at h = (o, at)
+
+  pub turns : (q : Spot) → CanMirror q → (i : ℕ) (e : Event) → event_at r q.place i ≡ Some e → Turns q i e
+  turns q can zero e is = free_turns q can 0 (at_will offers.Take) e take.take tt refl is
+  turns q can (suc zero) e is = free_turns q can 1 (at_will (offers.Step Loop)) e take.loop tt refl is
+  turns q can (suc (suc k)) e is = by (nat_lt k (worker_count r.program)) refl where
+    by : (b : Bool) → nat_lt k (worker_count r.program) ≡ b → Turns q (suc (suc k)) e
+    by true below =
+        let few = ltb-true k (worker_count r.program) below in
+        let it = finish_event q can k e few is in
+        let run = rank_slot q.place.state k it.0 it.1 in
+        subst (Turns q (suc (suc k))) (sym it.2) (finish_turns q can k it.0 run.0 few run.1)
+    by false past =
+        let o = offered_there q.place (suc (suc k)) e is in
+        let other = take.others (suc (suc k)) o.0 (let l = not_less k (worker_count r.program) past in omega (arith, l)) o.1 in
+        free_turns q can (suc (suc k)) o.0 e o.1 (clear_free o.0.offer other)
+        (each (λ (x : Offered). offer_spares a x.offer) r.offers (suc (suc k)) o.0 mates.offers o.1) is
+
+  -- ---- where it leads
+
+  pub record LeadsTurned (q : Spot) (l : Led) (number : ℕ) : Type 0 where
+    pub led_there : led r (mirror a q.place) number ≡ Some (mirror_led a r.program l)
+    pub answers_there : answers r (mirror a q.place) (mirror_led a r.program l) ≡ answers r q.place l
+    pub can_behind : is_few r.forget (length q.steps + 1) ≡ true → CanMirror (after_event q l)
+
+  pub leads_turned : (q : Spot) → CanMirror q → (i : ℕ) (l : Led) → IsLed r q.place i l → led r q.place i ≡ Some l → (t : Turns q i l.event)
+      → LeadsTurned q l t.number
+  leads_turned q can i l led here t =
+      let s = q.place.state in
+      let event : led.event ≡ l.event = sym (ap (λ (x : Led). x.event) led.is) in
+      let goes : next r.program (mirrored a s) l.event ≡ Moves (mirrored a led.state) (turned_line a r.program led.line) =
+      ap (next r.program (mirrored a s)) (sym t.plain)
+      ∙ next_mirrored a change r.program s l.event (are_alike r a mates s (wide q can.spot) can.clear)
+      ∙ ap (mirrored_next r.program a) (ap (next r.program s) (sym event) ∙ led.goes) in
+      let wide_behind = wide_after (q.steps ++ led.event ∷ []) led.state (state_behind r q led.event led.state led.line can.spot led.goes) in
+      let within : is_within r.most (mirrored a led.state) ≡ true = within_same a r.program led.state wide_behind r.most mates.bounds ∙ led.within in
+      let there = led_is r may.differ (mirror a q.place) t.number l.event (mirrored a led.state) (turned_line a r.program led.line) within t.offered
+      goes in
+      let kept = kept_same r a mates take.takes q.place.kept l.event led.state led.line in
+      let place = ap (λ (x : Led). x.place) led.is in
+      let line = ap (λ (x : Led). x.line) led.is in
+      record {
+        led_there = there ∙ (λ j. Some (record {
+          event = l.event;
+          place = record { state = mirrored a led.state; left = t.left j; kept = kept j };
+          line = turned_line a r.program led.line;
+        })) ∙ ap (λ (x : Led). Some (record { event = l.event; place = mirror a x.place; line = turned_line a r.program x.line }))
+            (sym (led.is ∙ (λ j. record {
+              event = event j;
+              place = record {
+                state = led.state;
+                left = lessened q.place.left i;
+                kept = kept_after r.recorded r.takes r.question q.place.kept (event j) led.state led.line;
+              };
+              line = led.line;
+            })));
+        answers_there = answers_same r a mates q.place l (subst (λ (x : Place). a + 2 ≤ length x.state.names) (sym place) wide_behind);
+        can_behind = λ few. record {
+          spot = leads_spot r q l can.spot (led_leads r q.place i l here) few;
+          clear = subst (λ (x : Place). main_spares a r.program x.state.place ≡ true) (sym place)
+              (spares_further a r.program s.place led.state.place
+              (subst (StaysPast (line_of s.place)) led.goes (next_past r.program (line_of s.place) s led.event (omega arith))) can.clear);
+          wills = subst (λ (x : Place). are_at_will (worker_count r.program + 2) x.left ≡ true) (sym place)
+              (wills_stay (worker_count r.program + 2) q.place.left i can.wills);
+        };
+      }

@@ -1,0 +1,376 @@
+-- What is offered where one name and the next one have changed places: the same events, those of workers by other ranks.
+use Rattle.std.proofs.Common.{◌≡◌, ℕ, zero, suc, ◌+◌, ◌-◌, ◌≤◌, ◌==◌, ◌&&◌, not, Bool, true, false, List, [], ◌∷◌, length, drop, slice_get, is_some, if◌then◌else◌, refl, ap, ap₂, sym, subst, ◌∙◌, Option, Some, None, arith}
+use Rattle.std.specs.Prelude.{map, option_map, unwrap_or}
+use Rattle.std.specs.List.{list_all}
+use Rattle.std.proofs.lemmas.Bool.{and_parts}
+use Rattle.std.proofs.lemmas.Option.{none-some, same_Some}
+use Rattle.uv_ids.specs.declared.event.Event.{Event}
+use Rattle.uv_ids.specs.declared.event.Event.TheVariants.{Loop, Take, Finish, Cancel, Send, Io, Tick}
+use Rattle.uv_ids.specs.declared.id.Id.{Id}
+use Rattle.uv_ids.specs.declared.id.Var.{Var}
+use Rattle.uv_ids.specs.declared.seen.Callback.{Callback}
+use Rattle.uv_ids.specs.declared.seen.Callback.TheVariants as callback
+use Rattle.uv_script.specs.declared.op.Op.{Op}
+use Rattle.uv_script.specs.declared.op.Op.TheVariants as op
+use Rattle.uv_script.specs.declared.op.MainOp.{MainOp}
+use Rattle.uv_script.specs.declared.op.MainOp.TheVariants as main
+use Rattle.uv_script.specs.declared.op.CallbackLine.{CallbackLine}
+use Rattle.uv_script.specs.Program.{Program, Callbacks, callbacks_of, lines_of, lines_in, no_callbacks}
+use Rattle.uv_records.specs.declared.named.Named.{Named}
+use Rattle.uv_records.specs.Slots.{held}
+use Rattle.uv_work.specs.declared.content.Content.{Content}
+use Rattle.uv_work.specs.declared.content.Content.TheVariants as content
+use Rattle.uv_model.specs.Bounds.{line_of}
+use Rattle.uv_model.specs.Next.{Next, Moves, Refuses, next}
+use Rattle.uv_model.specs.State.{State, named}
+use Rattle.uv_model.specs.declared.place.Place as loop
+use Rattle.uv_model.specs.declared.place.Place.TheVariants.{Main, Running}
+use Rattle.uv_model.specs.declared.place.Stage.{Stage}
+use Rattle.uv_model.specs.declared.place.Stage.TheVariants as stage
+use Rattle.uv_alike.specs.Changed.{changed_callback, changed_event, changed_main, changed_op, changed_place, changed_stage}
+use Rattle.uv_slots.specs.Alike as slots
+use Rattle.uv_slots.specs.Alike.{moved_var, moved_content, by_names}
+use Rattle.uv_slots.specs.Arranged.{place_of}
+use Rattle.uv_asking.specs.declared.asking.Offer.{Offer}
+use Rattle.uv_asking.specs.declared.asking.Offer.TheVariants as offers
+use Rattle.uv_asking.specs.declared.asking.Offered.{Offered}
+use Rattle.uv_find.specs.declared.kept.Kept.{Kept}
+use Rattle.uv_find.specs.declared.left.Left.{Left}
+use Rattle.uv_find.specs.Kept.{owes}
+use Rattle.uv_find.specs.Mates.{is_mute, offer_spares, main_spares}
+use Rattle.uv_find.specs.Holding.{is_empty}
+use Rattle.uv_find.specs.Ops.{is_beside, spares, of_main, of_lines, of_callbacks}
+use Rattle.uv_find.specs.Orders.{Rules, aim, is_made, is_free, spending, step_of, is_blocked, refused_as_blocked, deadline_at, deadline_in, wait_until, take_by, may_last, ends_within, is_in_poll, is_poll_stage, wait_for, is_quiet, is_behind_poll, is_closing, closes, event_of, timed, keeps_clock, is_brief, brief, offered_by, may_take}
+use Rattle.uv_find.specs.Ranks.{idle_worker, ranked}
+use Rattle.uv_find.specs.Spots.{AreMates}
+use Rattle.uv_find.proofs.Led.{each}
+use Rattle.uv_find.proofs.Swap.{swap, is_equal, differs, swap_length, swap_order, other_stays, second_goes, first_goes}
+use Rattle.uv_find.proofs.Mirrored.{NamesChange, mirrored, mirrored_next, next_mirrored, held_mirrored, named_same}
+use Rattle.uv_find.proofs.Twins.{beside_stays, beside_var}
+
+-- ---- the script says the same
+
+op_same : (a : ℕ) (o : Op) → spares a o ≡ true → changed_op (by_names (swap a)) o ≡ o
+op_same a (op.Init v k) e = ap (λ x. op.Init x k) (beside_var a v e)
+op_same a (op.Queue v task) e = ap (λ x. op.Queue x task) (beside_var a v e)
+op_same a (op.Cancel v) e = ap op.Cancel (beside_var a v e)
+op_same a (op.Start v timeout repeat) e = ap (λ x. op.Start x timeout repeat) (beside_var a v e)
+op_same a (op.StartWatcher v) e = ap op.StartWatcher (beside_var a v e)
+op_same a (op.Stop v) e = ap op.Stop (beside_var a v e)
+op_same a (op.Again v) e = ap op.Again (beside_var a v e)
+op_same a (op.SetRepeat v repeat) e = ap (λ x. op.SetRepeat x repeat) (beside_var a v e)
+op_same a (op.DueIn v) e = ap op.DueIn (beside_var a v e)
+op_same a (op.Close v) e = ap op.Close (beside_var a v e)
+op_same a (op.Ref v) e = ap op.Ref (beside_var a v e)
+op_same a (op.Unref v) e = ap op.Unref (beside_var a v e)
+op_same a (op.HasRef v) e = ap op.HasRef (beside_var a v e)
+op_same a (op.IsActive v) e = ap op.IsActive (beside_var a v e)
+op_same a (op.IsClosing v) e = ap op.IsClosing (beside_var a v e)
+op_same a (op.Send v) e = ap op.Send (beside_var a v e)
+op_same a op.CloseLoop e = refl
+op_same a op.StopLoop e = refl
+op_same a op.UpdateTime e = refl
+op_same a op.Now e = refl
+op_same a op.IsAlive e = refl
+op_same a op.Timeout e = refl
+
+lines_same : (a : ℕ) (ls : List CallbackLine) → of_lines (spares a) ls ≡ true → map (changed_callback (by_names (swap a))) ls ≡ ls
+lines_same a [] e = refl
+lines_same a (l ∷ ls) e =
+    let parts = and_parts (spares a l.op) (of_lines (spares a) ls) e in
+    ap₂ (λ (x : CallbackLine) (xs : List CallbackLine). x ∷ xs) (λ i. record l { op = op_same a l.op parts.0 i }) (lines_same a ls parts.1)
+
+main_same : (a : ℕ) (m : MainOp) → of_main (spares a) m ≡ true → changed_main (by_names (swap a)) m ≡ m
+main_same a (main.Op o) e = ap main.Op (op_same a o e)
+main_same a (main.Run mode) e = refl
+
+empty_is : {X : Type 0} (xs : List X) → is_empty xs ≡ true → xs ≡ []
+empty_is [] e = refl
+empty_is (x ∷ xs) e = absurd (let f : false ≡ true = e in cc)
+
+mute_lines : (kind : Callback) (c : Callbacks) → is_mute c ≡ true → lines_of kind c ≡ []
+mute_lines kind c e = by kind where
+  parts : ((is_empty c.handle && is_empty c.after) ≡ true) × (is_empty c.close ≡ true)
+  parts = and_parts (is_empty c.handle && is_empty c.after) (is_empty c.close) e
+
+  by : (kind : Callback) → lines_of kind c ≡ []
+  by callback.Handle = empty_is c.handle (and_parts (is_empty c.handle) (is_empty c.after) parts.0).0
+  by callback.After = empty_is c.after (and_parts (is_empty c.handle) (is_empty c.after) parts.0).1
+  by callback.Close = empty_is c.close parts.1
+
+all_behind : {X : Type 0} (f : X → Bool) (xs : List X) (k : ℕ) (x : X) → list_all f (drop k xs) ≡ true → slice_get xs k ≡ Some x → f x ≡ true
+all_behind f [] zero x e at = absurd (none-some x at)
+all_behind f [] (suc k) x e at = absurd (none-some x at)
+all_behind f (y ∷ ys) zero x e at = ap f (sym (same_Some y x at)) ∙ (and_parts (f y) (list_all f ys) e).0
+all_behind f (y ∷ ys) (suc k) x e at = all_behind f ys k x e at
+
+all_further : {X : Type 0} (f : X → Bool) (xs : List X) (k m : ℕ) → k ≤ m → list_all f (drop k xs) ≡ true → list_all f (drop m xs) ≡ true
+all_further f [] zero zero l e = e
+all_further f [] zero (suc m) l e = refl
+all_further f [] (suc k) zero l e = absurd (omega (arith, l))
+all_further f [] (suc k) (suc m) l e = refl
+all_further f (x ∷ xs) zero zero l e = e
+all_further f (x ∷ xs) zero (suc m) l e = all_further f xs 0 m (omega arith) (from_all xs (and_parts (f x) (list_all f xs) e).1)
+  where
+    from_all : (ys : List _) → list_all f ys ≡ true → list_all f (drop 0 ys) ≡ true
+    from_all [] e = e
+    from_all (y ∷ ys) e = e
+all_further f (x ∷ xs) (suc k) zero l e = absurd (omega (arith, l))
+all_further f (x ∷ xs) (suc k) (suc m) l e = all_further f xs k m (omega (arith, l)) e
+
+pub spares_further : (a : ℕ) (p : Program) (q u : loop.Place) → line_of q ≤ line_of u → main_spares a p q ≡ true → main_spares a p u ≡ true
+spares_further a p q u l e = all_further (of_main (spares a)) p.main (line_of q) (line_of u) l e
+
+module _ (r : Rules) (a : ℕ) (mates : AreMates r a) where
+  callbacks_spare : (v : Var) → of_callbacks (spares a) (callbacks_of r.program v) ≡ true
+  callbacks_spare v = by (slice_get r.program.callbacks v.0) refl where
+    by : (o : Option Callbacks) → slice_get r.program.callbacks v.0 ≡ o → of_callbacks (spares a) (unwrap_or o no_callbacks) ≡ true
+    by None e = refl
+    by (Some c) e = each (of_callbacks (spares a)) r.program.callbacks v.0 c mates.callbacks e
+
+  lines_spare : (kind : Callback) (v : Var) → of_lines (spares a) (lines_in r.program kind v) ≡ true
+  lines_spare kind v = by kind where
+    c : Callbacks
+    c = callbacks_of r.program v
+
+    parts : ((of_lines (spares a) (callbacks_of r.program v).handle && of_lines (spares a) (callbacks_of r.program v).after) ≡ true)
+        × (of_lines (spares a) (callbacks_of r.program v).close ≡ true)
+    parts = and_parts (of_lines (spares a) (callbacks_of r.program v).handle && of_lines (spares a) (callbacks_of r.program v).after)
+        (of_lines (spares a) (callbacks_of r.program v).close) (callbacks_spare v)
+
+    front : (of_lines (spares a) (callbacks_of r.program v).handle ≡ true) × (of_lines (spares a) (callbacks_of r.program v).after ≡ true)
+    front = and_parts (of_lines (spares a) (callbacks_of r.program v).handle) (of_lines (spares a) (callbacks_of r.program v).after) parts.0
+
+    by : (kind : Callback) → of_lines (spares a) (lines_of kind (callbacks_of r.program v)) ≡ true
+    by callback.Handle = front.0
+    by callback.After = front.1
+    by callback.Close = parts.1
+
+  mute_first : (kind : Callback) → lines_in r.program kind (record { 0 = a }) ≡ []
+  mute_first kind = mute_lines kind (callbacks_of r.program (record { 0 = a })) mates.mute
+
+  mute_second : (kind : Callback) → lines_in r.program kind (record { 0 = a + 1 }) ≡ []
+  mute_second kind = mute_lines kind (callbacks_of r.program (record { 0 = a + 1 })) mates.other
+
+  pub lines_moved : (kind : Callback) (v : Var) → lines_in r.program kind (moved_var (swap a) v) ≡ lines_in r.program kind v
+  lines_moved kind v = by (v.0 == a) (v.0 == a + 1) refl refl where
+    at : ℕ → List CallbackLine
+    at n = lines_in r.program kind (record { 0 = n })
+
+    by : (b c : Bool) → (v.0 == a) ≡ b → (v.0 == a + 1) ≡ c
+        → lines_in r.program kind (record { 0 = place_of (swap a) v.0 }) ≡ lines_in r.program kind (record { 0 = v.0 })
+    by true c is other =
+        let one : v.0 ≡ a = is_equal v.0 a is in
+        ap (λ n. lines_in r.program kind (record { 0 = place_of (swap a) n })) one
+        ∙ ap (λ n. lines_in r.program kind (record { 0 = n })) (first_goes a) ∙ mute_second kind ∙ sym (mute_first kind)
+        ∙ ap (λ n. lines_in r.program kind (record { 0 = n })) (sym one)
+    by false true is other =
+        let one : v.0 ≡ a + 1 = is_equal v.0 (a + 1) other in
+        ap (λ n. lines_in r.program kind (record { 0 = place_of (swap a) n })) one
+        ∙ ap (λ n. lines_in r.program kind (record { 0 = n })) (second_goes a) ∙ mute_first kind ∙ sym (mute_second kind)
+        ∙ ap (λ n. lines_in r.program kind (record { 0 = n })) (sym one)
+    by false false is other =
+        ap (λ n. lines_in r.program kind (record { 0 = n }))
+        (other_stays a v.0 (differs v.0 a is) (differs v.0 (a + 1) other))
+
+  -- where no line that is ahead of the main program names either, the names are alike
+  pub are_alike : (s : State) → a + 2 ≤ length s.names → main_spares a r.program s.place ≡ true → slots.AreAlike r.program (swap a) s
+  are_alike s wide clear = record {
+    order = swap_order a;
+    within = (let long = swap_length a in omega (arith, wide, long));
+    lines = λ kind v. lines_moved kind v ∙ sym (lines_same a (lines_in r.program kind v) (lines_spare kind v));
+    main = λ line at. main_there line at (slice_get r.program.main line) refl;
+  }
+    where
+      main_there : (line : ℕ) → s.place ≡ Main line → (o : Option MainOp) → slice_get r.program.main line ≡ o
+          → o ≡ option_map (changed_main (by_names (swap a))) o
+      main_there line at None e = refl
+      main_there line at (Some m) e =
+          let ahead : list_all (of_main (spares a)) (drop line r.program.main) ≡ true =
+          subst (λ q. list_all (of_main (spares a)) (drop (line_of q) r.program.main) ≡ true) at clear in
+          ap Some (sym (main_same a m (all_behind (of_main (spares a)) r.program.main line m ahead e)))
+
+-- ---- what a search reads
+
+quiet_same : (a : ℕ) (q : loop.Place) → is_quiet (changed_place (by_names (swap a)) q) ≡ is_quiet q
+quiet_same a (Main line) = refl
+quiet_same a (Running run) = by run.stage where
+  by : (x : Stage) → is_behind_poll (changed_stage (by_names (swap a)) x) ≡ is_behind_poll x
+  by (stage.Poll deadline) = refl
+  by x = refl
+
+in_poll_same : (a : ℕ) (q : loop.Place) → is_in_poll (changed_place (by_names (swap a)) q) ≡ is_in_poll q
+in_poll_same a (Main line) = refl
+in_poll_same a (Running run) = by run.stage where
+  by : (x : Stage) → is_poll_stage (changed_stage (by_names (swap a)) x) ≡ is_poll_stage x
+  by (stage.Poll deadline) = refl
+  by x = refl
+
+deadline_same : (a : ℕ) (q : loop.Place) → deadline_at (changed_place (by_names (swap a)) q) ≡ deadline_at q
+deadline_same a (Main line) = refl
+deadline_same a (Running run) = by run.stage where
+  by : (x : Stage) → deadline_in (changed_stage (by_names (swap a)) x) ≡ deadline_in x
+  by (stage.Poll None) = refl
+  by (stage.Poll (Some deadline)) = refl
+  by x = refl
+
+closing_same : (a : ℕ) (c : Option Content) → is_closing (option_map (moved_content (swap a)) c) ≡ is_closing c
+closing_same a None = refl
+closing_same a (Some (content.Handle h)) = refl
+closing_same a (Some (content.Request r)) = refl
+
+closes_same : (a : ℕ) (s : State) (o : Option Id) → closes (mirrored a s) o ≡ closes s o
+closes_same a s None = refl
+closes_same a s (Some id) = ap is_closing (held_mirrored a s id) ∙ closing_same a (held s.arena.slots id)
+
+-- an event that isn't a worker's finish, and names neither
+abbrev pub IsPlain : ℕ → Option Event → Type 0
+IsPlain a None = Unit {0}
+IsPlain a (Some (Finish k)) = ⊥
+IsPlain a (Some e) = changed_event (by_names (swap a)) e ≡ e
+
+pub plain_stays : (a : ℕ) (e : Event) → IsPlain a (Some e) → changed_event (by_names (swap a)) e ≡ e
+plain_stays a Loop is = refl
+plain_stays a (Take k) is = refl
+plain_stays a (Finish k) is = refl
+plain_stays a (Cancel v) is = is
+plain_stays a (Send v) is = is
+plain_stays a (Io v) is = is
+plain_stays a (Tick ms) is = refl
+
+ranked_plain : (f : Option ℕ) (s : State) (a : ℕ) (o : Option Event) → IsPlain a o → ranked f s o ≡ o
+ranked_plain None s a o is = refl
+ranked_plain (Some n) s a None is = refl
+ranked_plain (Some n) s a (Some Loop) is = refl
+ranked_plain (Some n) s a (Some (Take k)) is = refl
+ranked_plain (Some n) s a (Some (Finish k)) is = absurd is
+ranked_plain (Some n) s a (Some (Cancel v)) is = refl
+ranked_plain (Some n) s a (Some (Send v)) is = refl
+ranked_plain (Some n) s a (Some (Io v)) is = refl
+ranked_plain (Some n) s a (Some (Tick ms)) is = refl
+
+if_plain : (a : ℕ) (b : Bool) (e : Event) → IsPlain a (Some e) → IsPlain a (if b then Some e else None)
+if_plain a true e is = is
+if_plain a false e is = tt
+
+brief_plain : (f : Option ℕ) (a : ℕ) (o : Option Event) → IsPlain a o → IsPlain a (brief f o)
+brief_plain f a None is = tt
+brief_plain f a (Some e) is = if_plain a (is_brief f e) e is
+
+timed_plain : (most : Option ℕ) (clock a : ℕ) (o : Option Event) → IsPlain a o → IsPlain a (timed most clock o)
+timed_plain most clock a None is = tt
+timed_plain most clock a (Some e) is = if_plain a (keeps_clock most clock e) e is
+
+-- an offer that isn't one
+abbrev pub IsFree : Offer → Type 0
+IsFree (offers.Step (Finish k)) = ⊥
+IsFree (offers.SendDuring v job) = ⊥
+IsFree offer = Unit {0}
+
+module _ (change : NamesChange) (r : Rules) (a : ℕ) (mates : AreMates r a) (s : State) (k : Kept) (wide : a + 2 ≤ length s.names)
+    (clear : main_spares a r.program s.place ≡ true) where
+  abbrev m : State
+  m = mirrored a s
+
+  blocked_next : (x : Next) → refused_as_blocked (mirrored_next r.program a x) ≡ refused_as_blocked x
+  blocked_next (Moves t line) = refl
+  blocked_next (Refuses why) = refl
+
+  pub blocked_same : is_blocked r.program m ≡ is_blocked r.program s
+  blocked_same =
+      ap refused_as_blocked (next_mirrored a change r.program s Loop (are_alike r a mates s wide clear)) ∙ blocked_next (next r.program s Loop)
+
+  made_same : (o : Option Var) → is_beside a o ≡ true → is_made m o ≡ is_made s o
+  made_same None e = refl
+  made_same (Some v) e = ap (λ (n : Named). is_some n.id) (named_same a s wide v (beside_stays a v e))
+
+  free_same : (e : Event) → is_beside a (aim e) ≡ true → is_free m k e ≡ is_free s k e
+  free_same (Send v) e =
+      ap₂ (λ x y. not x && not y) (quiet_same a s.place)
+      (ap (λ (n : Named). closes m n.id) (named_same a s wide v (beside_stays a v e)) ∙ closes_same a s (named s v).id)
+  free_same (Io v) e = refl
+  free_same (Tick ms) e = refl
+  free_same Loop e = refl
+  free_same (Take w) e = refl
+  free_same (Finish w) e = refl
+  free_same (Cancel v) e = refl
+
+  step_same : (e : Event) → is_beside a (aim e) ≡ true → step_of m k e ≡ step_of s k e
+  step_same e beside = ap₂ (λ x y. if x && y then Some (spending k e) else None) (made_same (aim e) beside) (free_same e beside)
+
+  wait_same : wait_until r.program m (deadline_at m.place) ≡ wait_until r.program s (deadline_at s.place)
+  wait_same = ap (wait_until r.program m) (deadline_same a s.place) ∙ by (deadline_at s.place) where
+    by : (o : Option ℕ) → wait_until r.program m o ≡ wait_until r.program s o
+    by None = refl
+    by (Some deadline) = ap (λ b. if b then Some (Tick (deadline - s.clock)) else None) blocked_same
+
+  lasts_same : (ms : ℕ) → may_last m ms ≡ may_last s ms
+  lasts_same ms = ap₂ (λ x o. x && ends_within o s.clock ms) (in_poll_same a s.place) (deadline_same a s.place)
+
+  wait_for_same : (ms : ℕ) → wait_for r.program m ms ≡ wait_for r.program s ms
+  wait_for_same ms = ap₂ (λ x y. if x then (if y then Some (Tick ms) else None) else None) (lasts_same ms) blocked_same
+
+  event_same : (offer : Offer) → IsFree offer → offer_spares a offer ≡ true → event_of r.program m k offer ≡ event_of r.program s k offer
+  event_same (offers.Step Loop) free e = step_same Loop refl
+  event_same (offers.Step (Take w)) free e = step_same (Take w) refl
+  event_same (offers.Step (Finish w)) free e = absurd free
+  event_same (offers.Step (Cancel v)) free e = step_same (Cancel v) e
+  event_same (offers.Step (Send v)) free e = step_same (Send v) e
+  event_same (offers.Step (Io v)) free e = step_same (Io v) e
+  event_same (offers.Step (Tick ms)) free e = step_same (Tick ms) refl
+  event_same (offers.SendDuring v job) free e = absurd free
+  event_same offers.Take free e = refl
+  event_same offers.Wait free e = wait_same
+  event_same (offers.WaitFor ms) free e = wait_for_same ms
+
+  event_plain : (offer : Offer) → IsFree offer → offer_spares a offer ≡ true → IsPlain a (event_of r.program s k offer)
+  event_plain (offers.Step Loop) free e = if_plain a (is_made s None && is_free s k Loop) (spending k Loop) (by (owes k)) where
+    by : (b : Bool) → IsPlain a (Some (if b then Tick k.owed else Loop))
+    by true = refl
+    by false = refl
+  event_plain (offers.Step (Take w)) free e = refl
+  event_plain (offers.Step (Finish w)) free e = absurd free
+  event_plain (offers.Step (Cancel v)) free e =
+      if_plain a (is_made s (Some v) && is_free s k (Cancel v)) (Cancel v) (ap Cancel (beside_var a v e))
+  event_plain (offers.Step (Send v)) free e = if_plain a (is_made s (Some v) && is_free s k (Send v)) (Send v) (ap Send (beside_var a v e))
+  event_plain (offers.Step (Io v)) free e = if_plain a (is_made s (Some v) && is_free s k (Io v)) (Io v) (ap Io (beside_var a v e))
+  event_plain (offers.Step (Tick ms)) free e = if_plain a (is_made s None && is_free s k (Tick ms)) (Tick ms) refl
+  event_plain (offers.SendDuring v job) free e = absurd free
+  event_plain offers.Take free e = by (idle_worker s) where
+    by : (o : Option ℕ) → IsPlain a (take_by o)
+    by None = tt
+    by (Some w) = refl
+  event_plain offers.Wait free e = by (deadline_at s.place) where
+    by : (o : Option ℕ) → IsPlain a (wait_until r.program s o)
+    by None = tt
+    by (Some deadline) = if_plain a (is_blocked r.program s) (Tick (deadline - s.clock)) refl
+  event_plain (offers.WaitFor ms) free e = by (may_last s ms) (is_blocked r.program s) where
+    by : (x y : Bool) → IsPlain a (if x then (if y then Some (Tick ms) else None) else None)
+    by true true = refl
+    by true false = tt
+    by false y = tt
+
+  -- such an offer is the same event, and names neither
+  pub offered_same : (xs : List Left) (o : Offered) (x : Option Left) → IsFree o.offer → offer_spares a o.offer ≡ true
+      → offered_by r (record { state = m; left = xs; kept = k }) (Some o) x ≡ offered_by r (record { state = s; left = xs; kept = k }) (Some o) x
+  offered_same xs o None free e = refl
+  offered_same xs o (Some x) free e = by (may_take x) where
+    by : (b : Bool) → brief r.forget (ranked r.forget m (if b then timed r.clock s.clock (event_of r.program m k o.offer) else None))
+        ≡ brief r.forget (ranked r.forget s (if b then timed r.clock s.clock (event_of r.program s k o.offer) else None))
+    by true =
+        let plain = timed_plain r.clock s.clock a (event_of r.program s k o.offer) (event_plain o.offer free e) in
+        ap (λ y. brief r.forget (ranked r.forget m (timed r.clock s.clock y))) (event_same o.offer free e)
+        ∙ ap (brief r.forget) (ranked_plain r.forget m a (timed r.clock s.clock (event_of r.program s k o.offer)) plain
+        ∙ sym (ranked_plain r.forget s a (timed r.clock s.clock (event_of r.program s k o.offer)) plain))
+    by false = ap (brief r.forget) (ranked_plain r.forget m a None tt ∙ sym (ranked_plain r.forget s a None tt))
+
+  pub offered_plain : (xs : List Left) (o : Offered) (x : Option Left) → IsFree o.offer → offer_spares a o.offer ≡ true
+      → IsPlain a (offered_by r (record { state = s; left = xs; kept = k }) (Some o) x)
+  offered_plain xs o None free e = tt
+  offered_plain xs o (Some x) free e = by (may_take x) where
+    by : (b : Bool) → IsPlain a (brief r.forget (ranked r.forget s (if b then timed r.clock s.clock (event_of r.program s k o.offer) else None)))
+    by true =
+        let plain = timed_plain r.clock s.clock a (event_of r.program s k o.offer) (event_plain o.offer free e) in
+        brief_plain r.forget a (ranked r.forget s (timed r.clock s.clock (event_of r.program s k o.offer)))
+        (subst (IsPlain a) (sym (ranked_plain r.forget s a (timed r.clock s.clock (event_of r.program s k o.offer)) plain)) plain)
+    by false = brief_plain r.forget a (ranked r.forget s None) (subst (IsPlain a) (sym (ranked_plain r.forget s a None tt)) tt)

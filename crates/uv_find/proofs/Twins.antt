@@ -1,0 +1,490 @@
+-- Where workers run two requests that are alike, the state is that in which their names have changed places, by its form by names.
+use Rattle.std.proofs.Common.{◌≡◌, ℕ, zero, suc, ◌+◌, ◌<◌, ◌≤◌, ◌==◌, ◌||◌, not, Bool, true, false, List, [], ◌∷◌, ◌++◌, length, slice_get, refl, ap, ap₂, sym, subst, ◌∙◌, Option, Some, None, arith}
+use Rattle.std.specs.Prelude.{map, min, option_map, unwrap_or}
+use Rattle.std.proofs.lemmas.Bool.{and_parts, or_right}
+use Rattle.std.proofs.lemmas.List.{length-map}
+use Rattle.std.proofs.lemmas.Option.{none-some, same_Some, slice_get-map}
+use Rattle.uv_ids.specs.declared.id.Id.{Id}
+use Rattle.uv_ids.specs.declared.id.Var.{Var}
+use Rattle.uv_script.specs.Program.{Program}
+use Rattle.uv_records.specs.declared.handle.HandleRecord.{HandleRecord}
+use Rattle.uv_records.specs.declared.lists.WatcherKind.{WatcherKind}
+use Rattle.uv_records.specs.declared.lists.WatcherKind.TheVariants as watcher
+use Rattle.uv_records.specs.Names as names
+use Rattle.uv_records.specs.declared.named.Named.{Named}
+use Rattle.uv_records.specs.declared.slot.Slot.{Slot}
+use Rattle.uv_records.specs.Slots.{held}
+use Rattle.uv_records.specs.Walks.{Walk}
+use Rattle.uv_work.specs.declared.content.Content.{Content}
+use Rattle.uv_work.specs.declared.content.Content.TheVariants as content
+use Rattle.uv_work.specs.declared.outcome.Outcome.{Outcome}
+use Rattle.uv_work.specs.declared.outcome.Outcome.TheVariants.{Open, Finished, Cancelled}
+use Rattle.uv_work.specs.declared.request.Request.{Request}
+use Rattle.uv_work.specs.Requests.{is_open}
+use Rattle.uv_model.specs.Content.{handle_in, request_in}
+use Rattle.uv_model.specs.declared.place.Body.{Body}
+use Rattle.uv_model.specs.declared.place.Place.{Place}
+use Rattle.uv_model.specs.declared.place.Place.TheVariants.{Main, Running}
+use Rattle.uv_model.specs.declared.place.Stage.{Stage}
+use Rattle.uv_model.specs.declared.place.Stage.TheVariants.{Poll}
+use Rattle.uv_model.specs.Ids.{same_id}
+use Rattle.uv_model.specs.State.{State, named, handle, request, watched}
+use Rattle.uv_order.specs.Active.{has_id, AreDistinct, run_ids}
+use Rattle.uv_order.specs.Reached.{IsReached}
+use Rattle.uv_order.proofs.IdLists as ids
+use Rattle.uv_shift.specs.Shift.{By}
+use Rattle.uv_shift.specs.Earliest.{base, earlier, or_first, or_over, least_start}
+use Rattle.uv_shift.specs.Retimed.{retimed_place}
+use Rattle.uv_names.specs.Counts.{capped_calls, capped_place}
+use Rattle.uv_alike.specs.Changed.{changed_body, changed_place, changed_stage}
+use Rattle.uv_slots.specs.Alike.{moved_var, moved_content, moved_slot, by_names}
+use Rattle.uv_slots.specs.Arranged.{place_of}
+use Rattle.uv_slots.specs.NamedForm.{name_in}
+use Rattle.uv_slots.proofs.Orders.{Fits, get_arranged}
+use Rattle.uv_workers.specs.Workers.{with_run, ordered}
+use Rattle.uv_workers.proofs.Runs.{swapped}
+use Rattle.uv_pooled.proofs.Given.{has_at}
+use Rattle.uv_by_name.specs.ByName.{by_name, IsRegular}
+use Rattle.uv_tale.specs.Tale.{Told, as_id, bound_by, bound_to, name_at, names_at, number_of, numbers_at, runs_at, tale_by, told_name, walk_at}
+use Rattle.uv_tale.proofs.Form.{tales_tell}
+use Rattle.uv_find.specs.Ops.{is_beside}
+use Rattle.uv_find.specs.Mates.{body_spares, place_spares}
+use Rattle.uv_find.proofs.Ranking.{Run}
+use Rattle.uv_find.proofs.Meeting.{not_true}
+use Rattle.uv_find.proofs.Swap.{swap, is_equal, differs, swap_length, swap_order, first_goes, second_goes, other_stays, twice_stays}
+use Rattle.uv_find.proofs.Mirrored.{mirrored, held_mirrored, mirrored_regular}
+
+-- ---- what workers run, in order
+
+less_at : ℕ → List Run → List Run
+less_at k [] = []
+less_at zero (x ∷ xs) = xs
+less_at (suc k) (x ∷ xs) = x ∷ less_at k xs
+
+run_same : (f h : Id → Id) (run : Run) → ((id : Id) → run ≡ Some id → h id ≡ f id) → option_map h run ≡ option_map f run
+run_same f h None same = refl
+run_same f h (Some id) same = ap Some (same id refl)
+
+all_same : (f h : Id → Id) (xs : List Run) → ((k : ℕ) (id : Id) → slice_get xs k ≡ Some (Some id) → h id ≡ f id)
+    → map (option_map h) xs ≡ map (option_map f) xs
+all_same f h [] same = refl
+all_same f h (x ∷ xs) same =
+    ap₂ (λ y (ys : List Run). y ∷ ys) (run_same f h x (λ id e. same 0 id (ap Some e))) (all_same f h xs (λ k. same (suc k)))
+
+-- all but one are the same
+one_out : (f h : Id → Id) (xs : List Run) (j : ℕ) (y : Id) → slice_get xs j ≡ Some (Some y)
+    → ((k : ℕ) (id : Id) → slice_get xs k ≡ Some (Some id) → (k ≡ j → ⊥) → h id ≡ f id)
+    → ordered (map (option_map h) xs) ≡ with_run (Some (h y)) (ordered (map (option_map f) (less_at j xs)))
+unfolding less_at
+one_out f h [] j y at same = absurd (none-some (Some y) at)
+one_out f h (x ∷ xs) zero y at same =
+    let one : x ≡ Some y = same_Some x (Some y) at in
+    ap₂ (λ (r : Run) rs. with_run (option_map h r) (ordered rs)) one (all_same f h xs (λ k id e. same (suc k) id e (λ eq. omega (arith, eq))))
+one_out f h (x ∷ xs) (suc j) y at same =
+    ap (with_run (option_map h x)) (one_out f h xs j y at (λ k id e no. same (suc k) id e (λ eq. no (omega (arith, eq)))))
+    ∙ swapped (option_map h x) (Some (h y)) (ordered (map (option_map f) (less_at j xs)))
+    ∙ ap (λ (r : Run). with_run (Some (h y)) (with_run r (ordered (map (option_map f) (less_at j xs)))))
+    (run_same f h x (λ id e. same 0 id (ap Some e) (λ eq. omega (arith, eq))))
+
+module _ (f g : Id → Id) where
+  front_out : (z : Run) (zs : List Run) (j : ℕ) (x y : Id) → z ≡ Some x → slice_get zs j ≡ Some (Some y)
+      → ((k : ℕ) (id : Id) → slice_get zs k ≡ Some (Some id) → (k ≡ j → ⊥) → g id ≡ f id) → g x ≡ f y → g y ≡ f x
+      → ordered (map (option_map g) (z ∷ zs)) ≡ ordered (map (option_map f) (z ∷ zs))
+  front_out z zs j x y here there same one two =
+      let rest = ordered (map (option_map f) (less_at j zs)) in
+      let h = one_out f g zs j y there same in
+      let k = one_out f f zs j y there (λ k id e no. refl) in
+      ap (λ (r : Run). with_run (option_map g r) (ordered (map (option_map g) zs))) here
+      ∙ ap (with_run (Some (g x))) h ∙ (λ i. with_run (Some (one i)) (with_run (Some (two i)) rest))
+      ∙ swapped (Some (f y)) (Some (f x)) rest ∙ ap (with_run (Some (f x))) (sym k)
+      ∙ sym (ap (λ (r : Run). with_run (option_map f r) (ordered (map (option_map f) zs))) here)
+
+  -- where two have changed places it is the same list in order
+  exchanged : (xs : List Run) (i j : ℕ) (x y : Id) → slice_get xs i ≡ Some (Some x) → slice_get xs j ≡ Some (Some y) → (i ≡ j → ⊥)
+      → ((k : ℕ) (id : Id) → slice_get xs k ≡ Some (Some id) → (k ≡ i → ⊥) → (k ≡ j → ⊥) → g id ≡ f id) → g x ≡ f y → g y ≡ f x
+      → ordered (map (option_map g) xs) ≡ ordered (map (option_map f) xs)
+  exchanged [] i j x y here there differ same one two = absurd (none-some (Some x) here)
+  exchanged (z ∷ zs) zero zero x y here there differ same one two = absurd (differ refl)
+  exchanged (z ∷ zs) zero (suc j) x y here there differ same one two =
+      front_out z zs j x y (same_Some z (Some x) here) there
+      (λ k id e no. same (suc k) id e (λ eq. omega (arith, eq)) (λ eq. no (omega (arith, eq)))) one two
+  exchanged (z ∷ zs) (suc i) zero x y here there differ same one two =
+      front_out z zs i y x (same_Some z (Some y) there) here
+      (λ k id e no. same (suc k) id e (λ eq. no (omega (arith, eq))) (λ eq. omega (arith, eq))) two one
+  exchanged (z ∷ zs) (suc i) (suc j) x y here there differ same one two =
+      ap₂ (λ (r : Run) rs. with_run r rs) (run_same f g z (λ id e. same 0 id (ap Some e) (λ eq. omega (arith, eq)) (λ eq. omega (arith, eq))))
+      (exchanged zs i j x y here there (λ e. differ (ap suc e))
+      (λ k id e no other. same (suc k) id e (λ eq. no (omega (arith, eq))) (λ eq. other (omega (arith, eq)))) one two)
+
+-- ---- lists
+
+same_lists : {X : Type 0} (xs ys : List X) → ((k : ℕ) → slice_get xs k ≡ slice_get ys k) → xs ≡ ys
+same_lists [] [] same = refl
+same_lists [] (y ∷ ys) same = absurd (none-some y (same 0))
+same_lists (x ∷ xs) [] same = absurd (none-some x (sym (same 0)))
+same_lists (x ∷ xs) (y ∷ ys) same = ap₂ (λ z zs. z ∷ zs) (same_Some x y (same 0)) (same_lists xs ys (λ k. same (suc k)))
+
+in_both : (xs ys : List Id) (id : Id) → AreDistinct (xs ++ ys) → has_id xs id ≡ true → has_id ys id ≡ true → ⊥
+in_both [] ys id h one two = absurd (let f : false ≡ true = one in cc)
+in_both (x ∷ xs) ys id h one two = by (in_both xs ys id h.1) (same_id x id) refl one where
+  by : (has_id xs id ≡ true → has_id ys id ≡ true → ⊥) → (b : Bool) → same_id x id ≡ b → (b || has_id xs id) ≡ true → ⊥
+  by more true is first =
+      let absent : has_id ys x ≡ false = ids.has_back xs ys x h.0 in
+      let f : true ≡ false = sym two ∙ ap (has_id ys) (sym (ids.same x id is)) ∙ absent in
+      cc
+  by more false is first = more first two
+
+run_has : (xs : List Run) (k : ℕ) (id : Id) → slice_get xs k ≡ Some (Some id) → has_id (run_ids xs) id ≡ true
+run_has [] k id e = absurd (none-some (Some id) e)
+run_has (None ∷ xs) zero id e = absurd (none-some id (same_Some None (Some id) e))
+run_has (None ∷ xs) (suc k) id e = run_has xs k id e
+run_has (Some x ∷ xs) zero id e =
+    let one : x ≡ id = same_Some x id (same_Some (Some x) (Some id) e) in
+    ap (λ b. b || has_id (run_ids xs) id) (ids.itself x id one)
+run_has (Some x ∷ xs) (suc k) id e = or_right (same_id x id) (has_id (run_ids xs) id) (run_has xs k id e)
+
+-- no handle is a request
+not_both : (o : Option Content) (h : HandleRecord) (r : Request) → handle_in o ≡ Some h → request_in o ≡ Some r → ⊥
+not_both None h r e f = none-some h e
+not_both (Some (content.Handle g)) h r e f = none-some r f
+not_both (Some (content.Request q)) h r e f = none-some h e
+
+held_request : (o : Option Content) (r : Request) → request_in o ≡ Some r → o ≡ Some (content.Request r)
+held_request None r e = absurd (none-some r e)
+held_request (Some (content.Handle h)) r e = absurd (none-some r e)
+held_request (Some (content.Request q)) r e = ap (λ (x : Request). Some (content.Request x)) (same_Some q r e)
+
+open_is : (o : Outcome) → is_open o ≡ true → o ≡ Open
+open_is Open e = refl
+open_is (Finished digest) e = absurd (let f : false ≡ true = e in cc)
+open_is Cancelled e = absurd (let f : false ≡ true = e in cc)
+
+-- ---- the state
+
+-- workers run two requests of these names that say the same
+pub record AreTwins (s : State) (a : ℕ) : Type 0 where
+  pub i : ℕ
+  pub j : ℕ
+  pub x : Id
+  pub y : Id
+  pub here : slice_get s.running i ≡ Some (Some x)
+  pub there : slice_get s.running j ≡ Some (Some y)
+  pub one : Request
+  pub two : Request
+  pub holds_x : request s x ≡ Some one
+  pub holds_y : request s y ≡ Some two
+  pub name_x : one.name.0 ≡ a
+  pub name_y : two.name.0 ≡ a + 1
+  pub task : one.task ≡ two.task
+  pub calls : (named s (record { 0 = a })).calls ≡ (named s (record { 0 = a + 1 })).calls
+  pub place : place_spares a s.place ≡ true
+
+beside_first : (a : ℕ) (v : Var) → is_beside a (Some v) ≡ true → (v.0 ≡ a → ⊥) × (v.0 ≡ a + 1 → ⊥)
+beside_first a v e =
+    let parts = and_parts (not (v.0 == a)) (not (v.0 == a + 1)) e in
+    (differs v.0 a (not_true (v.0 == a) parts.0), differs v.0 (a + 1) (not_true (v.0 == a + 1) parts.1))
+
+pub beside_stays : (a : ℕ) (v : Var) → is_beside a (Some v) ≡ true → place_of (swap a) v.0 ≡ v.0
+beside_stays a v e = let no = beside_first a v e in other_stays a v.0 no.0 no.1
+
+pub beside_var : (a : ℕ) (v : Var) → is_beside a (Some v) ≡ true → moved_var (swap a) v ≡ v
+beside_var a v e = λ i. record { 0 = beside_stays a v e i }
+
+-- ---- where no callback of theirs is under way
+
+stage_same : (a : ℕ) (stage : Stage) → changed_stage (by_names (swap a)) stage ≡ stage
+stage_same a (Poll None) = refl
+stage_same a (Poll (Some deadline)) = refl
+stage_same a stage = refl
+
+body_same : (a : ℕ) (b : Option Body) → body_spares a b ≡ true → option_map (changed_body (by_names (swap a))) b ≡ b
+body_same a None e = refl
+body_same a (Some b) e = λ i. Some (record b { name = beside_var a b.name e i })
+
+place_same : (a : ℕ) (place : Place) → place_spares a place ≡ true → changed_place (by_names (swap a)) place ≡ place
+place_same a (Main line) e = refl
+place_same a (Running run) e = λ i. Running (record run { stage = stage_same a run.stage i; body = body_same a run.body e i })
+
+module _ (p : Program) (s : State) (a : ℕ) (h : IsReached s) (regular : IsRegular p s) (wide : a + 2 ≤ length s.names) (t : AreTwins s a) where
+  abbrev slots : List (Slot Content)
+  slots = s.arena.slots
+
+  abbrev others : List (Slot Content)
+  others = (mirrored a s).arena.slots
+
+  abbrev first : Var
+  first = record { 0 = a }
+
+  abbrev second : Var
+  second = record { 0 = a + 1 }
+
+  held_x : held slots t.x ≡ Some (content.Request t.one)
+  held_x = held_request (held slots t.x) t.one t.holds_x
+
+  held_y : held slots t.y ≡ Some (content.Request t.two)
+  held_y = held_request (held slots t.y) t.two t.holds_y
+
+  bound_x : (named s first).id ≡ Some t.x
+  bound_x = ap (λ v. (named s (record { 0 = v })).id) (sym t.name_x) ∙ regular.tidy.bound t.x (content.Request t.one) held_x
+
+  bound_y : (named s second).id ≡ Some t.y
+  bound_y = ap (λ v. (named s (record { 0 = v })).id) (sym t.name_y) ∙ regular.tidy.bound t.y (content.Request t.two) held_y
+
+  open_at : (k : ℕ) (id : Id) (r : Request) → slice_get s.running k ≡ Some (Some id) → request s id ≡ Some r → r.outcome ≡ Open
+  open_at k id r at holds =
+      let its = h.opened.each id (has_at s.waiting s.running k id at) in
+      let one : its.its ≡ r = same_Some its.its r (sym its.holds ∙ holds) in
+      open_is r.outcome (subst (λ (q : Request). is_open q.outcome ≡ true) one its.opened)
+
+  open_both : t.one.outcome ≡ t.two.outcome
+  open_both = open_at t.i t.x t.one t.here t.holds_x ∙ sym (open_at t.j t.y t.two t.there t.holds_y)
+
+  moved_y : moved_content (swap a) (content.Request t.two) ≡ content.Request t.one
+  moved_y =
+      let name : place_of (swap a) t.two.name.0 ≡ t.one.name.0 = ap (place_of (swap a)) t.name_y ∙ second_goes a ∙ sym t.name_x in
+      λ i. content.Request (record { name = record { 0 = name i }; task = sym t.task i; outcome = sym open_both i })
+
+  moved_x : moved_content (swap a) (content.Request t.one) ≡ content.Request t.two
+  moved_x =
+      let name : place_of (swap a) t.one.name.0 ≡ t.two.name.0 = ap (place_of (swap a)) t.name_x ∙ first_goes a ∙ sym t.name_y in
+      λ i. content.Request (record { name = record { 0 = name i }; task = t.task i; outcome = open_both i })
+
+  -- ---- names of ids
+
+  moved_name : (c : Content) → (name_in (moved_content (swap a) c)).0 ≡ place_of (swap a) (name_in c).0
+  moved_name (content.Handle g) = refl
+  moved_name (content.Request r) = refl
+
+  at_other : (id : Id) → name_at others id ≡ number_of (option_map (moved_content (swap a)) (held slots id))
+  at_other id = ap number_of (held_mirrored a s id)
+
+  other_name : (id : Id) → (id ≡ t.x → ⊥) → (id ≡ t.y → ⊥) → name_at others id ≡ name_at slots id
+  other_name id no_x no_y = at_other id ∙ by (held slots id) refl where
+    by : (c : Option Content) → held slots id ≡ c → number_of (option_map (moved_content (swap a)) c) ≡ number_of c
+    by None e = refl
+    by (Some c) e =
+        let binds = regular.tidy.bound id c e in
+        moved_name c ∙ other_stays a (name_in c).0
+        (λ is. no_x (same_Some id t.x (sym binds ∙ ap (λ v. (named s (record { 0 = v })).id) is ∙ bound_x)))
+        (λ is. no_y (same_Some id t.y (sym binds ∙ ap (λ v. (named s (record { 0 = v })).id) is ∙ bound_y)))
+
+  pub at_x : name_at slots t.x ≡ a
+  at_x = ap number_of held_x ∙ t.name_x
+
+  at_y : name_at slots t.y ≡ a + 1
+  at_y = ap number_of held_y ∙ t.name_y
+
+  pub turned_x : name_at others t.x ≡ a + 1
+  turned_x = at_other t.x ∙ ap (λ c. number_of (option_map (moved_content (swap a)) c)) held_x ∙ ap (place_of (swap a)) t.name_x ∙ first_goes a
+
+  pub turned_y : name_at others t.y ≡ a
+  turned_y = at_other t.y ∙ ap (λ c. number_of (option_map (moved_content (swap a)) c)) held_y ∙ ap (place_of (swap a)) t.name_y ∙ second_goes a
+
+  -- ---- lists
+
+  abbrev IsOther : Id → Type 0
+  IsOther id = (id ≡ t.x → ⊥) × (id ≡ t.y → ⊥)
+
+  list_same : (L : List Id) → ((id : Id) → has_id L id ≡ true → IsOther id) → names_at others L ≡ names_at slots L
+  list_same [] other = refl
+  list_same (id ∷ L) other =
+      let no = other id (ap (λ b. b || has_id L id) (ids.itself id id refl)) in
+      ap₂ (λ m (ms : List ℕ). m ∷ ms) (other_name id no.0 no.1) (list_same L (λ x e. other x (or_right (same_id id x) (has_id L x) e)))
+
+  walk_same : (w : Walk Id) → ((id : Id) → has_id (w.list ++ w.yet) id ≡ true → IsOther id) → walk_at others w ≡ walk_at slots w
+  walk_same w other =
+      let list = list_same w.list (λ id e. other id (ids.has_both w.list w.yet id ∙ ap (λ b. b || has_id w.yet id) e)) in
+      let yet = list_same w.yet (λ id e. other id (ids.has_both w.list w.yet id ∙ or_right (has_id w.list id) (has_id w.yet id) e)) in
+      λ i. record { list = list i; yet = yet i }
+
+  no_handle : (id : Id) (g : HandleRecord) → handle s id ≡ Some g → IsOther id
+  no_handle id g e = (
+    λ is. not_both (held slots id) g t.one e (subst (λ k. request s k ≡ Some t.one) (sym is) t.holds_x),
+    λ is. not_both (held slots id) g t.two e (subst (λ k. request s k ≡ Some t.two) (sym is) t.holds_y),
+  )
+
+  watchers_other : (q : WatcherKind) (id : Id) → has_id ((watched s q).list ++ (watched s q).yet) id ≡ true → IsOther id
+  watchers_other q id e = let its = (h.watchers q).each id e in no_handle id its.its its.holds
+
+  ready_other : (id : Id) → has_id s.ready id ≡ true → IsOther id
+  ready_other id e = let its = h.ready.each id e in no_handle id its.its its.holds
+
+  closing_other : (id : Id) → has_id (s.closing.list ++ s.closing.yet) id ≡ true → IsOther id
+  closing_other id e = let its = h.closing.each id e in no_handle id its.its its.holds
+
+  ended_no : (k : ℕ) (id z : Id) (r q : Request) → slice_get s.running k ≡ Some (Some z) → request s z ≡ Some r → request s id ≡ Some q
+      → is_open q.outcome ≡ false → id ≡ z → ⊥
+  ended_no k id z r q at holds ends shut is =
+      let one : q ≡ r = same_Some q r (sym ends ∙ ap (request s) is ∙ holds) in
+      let f : true ≡ false = ap is_open (sym (open_at k z r at holds)) ∙ ap (λ (x : Request). is_open x.outcome) (sym one) ∙ shut in
+      cc
+
+  done_other : (id : Id) → has_id (s.done.list ++ s.done.yet) id ≡ true → IsOther id
+  done_other id e =
+      let its = h.done.each id e in (
+        ended_no t.i id t.x t.one its.its t.here t.holds_x its.holds its.ended,
+        ended_no t.j id t.y t.two its.its t.there t.holds_y its.holds its.ended,
+      )
+
+  waiting_other : (id : Id) → has_id s.waiting id ≡ true → IsOther id
+  waiting_other id e = (
+    λ is. in_both s.waiting (run_ids s.running) t.x h.opened.distinct (subst (λ k. has_id s.waiting k ≡ true) is e)
+        (run_has s.running t.i t.x t.here),
+    λ is. in_both s.waiting (run_ids s.running) t.y h.opened.distinct (subst (λ k. has_id s.waiting k ≡ true) is e)
+        (run_has s.running t.j t.y t.there),
+  )
+
+  -- ---- what workers run
+
+  run_other : (k m : ℕ) (id z : Id) → slice_get s.running k ≡ Some (Some id) → slice_get s.running m ≡ Some (Some z) → (k ≡ m → ⊥) → id ≡ z → ⊥
+  run_other k m id z at there differ is = differ (once k m z (subst (λ x. slice_get s.running k ≡ Some (Some x)) is at) there) where
+    apart : AreDistinct (run_ids s.running)
+    apart = ids.distinct_back s.waiting (run_ids s.running) h.opened.distinct
+
+    one_place : (xs : List Run) → AreDistinct (run_ids xs) → (k m : ℕ) → slice_get xs k ≡ Some (Some z) → slice_get xs m ≡ Some (Some z) → k ≡ m
+    one_place [] d k m e f = absurd (none-some (Some z) e)
+    one_place (x ∷ xs) d zero zero e f = refl
+    one_place (None ∷ xs) d zero (suc m) e f = absurd (none-some z (same_Some None (Some z) e))
+    one_place (None ∷ xs) d (suc k) zero e f = absurd (none-some z (same_Some None (Some z) f))
+    one_place (None ∷ xs) d (suc k) (suc m) e f = ap suc (one_place xs d k m e f)
+    one_place (Some x ∷ xs) d zero (suc m) e f =
+        let same : x ≡ z = same_Some x z (same_Some (Some x) (Some z) e) in
+        absurd (let g : true ≡ false = sym (run_has xs m z f) ∙ ap (has_id (run_ids xs)) (sym same) ∙ d.0 in cc)
+    one_place (Some x ∷ xs) d (suc k) zero e f =
+        let same : x ≡ z = same_Some x z (same_Some (Some x) (Some z) f) in
+        absurd (let g : true ≡ false = sym (run_has xs k z e) ∙ ap (has_id (run_ids xs)) (sym same) ∙ d.0 in cc)
+    one_place (Some x ∷ xs) d (suc k) (suc m) e f = ap suc (one_place xs d.1 k m e f)
+
+    once : (k m : ℕ) (y : Id) → slice_get s.running k ≡ Some (Some z) → slice_get s.running m ≡ Some (Some z) → k ≡ m
+    once k m y e f = one_place s.running apart k m e f
+
+  differ : t.i ≡ t.j → ⊥
+  differ e =
+      let one : t.x ≡ t.y = same_Some t.x t.y (same_Some (Some t.x) (Some t.y) (sym t.here ∙ ap (slice_get s.running) e ∙ t.there)) in
+      let f : a ≡ a + 1 = sym at_x ∙ ap (name_at slots) one ∙ at_y in
+      omega (arith, f)
+
+  runs_same : runs_at others s.running ≡ runs_at slots s.running
+  runs_same = exchanged (λ id. as_id (name_at slots id)) (λ id. as_id (name_at others id)) s.running t.i t.j t.x t.y t.here t.there differ
+      (λ k id at no_i no_j. ap as_id (other_name id (run_other k t.i id t.x at t.here no_i) (run_other k t.j id t.y at t.there no_j)))
+      (ap as_id (turned_x ∙ sym at_y)) (ap as_id (turned_y ∙ sym at_x))
+
+  -- ---- names
+
+  content_stays : (c : Content) → place_of (swap a) (name_in c).0 ≡ (name_in c).0 → moved_content (swap a) c ≡ c
+  content_stays (content.Handle g) e = λ i. content.Handle (record g { name = record { 0 = e i } })
+  content_stays (content.Request r) e = λ i. content.Request (record r { name = record { 0 = e i } })
+
+  fits : Fits (swap a) s.names
+  fits = record { order = swap_order a; within = (let long = swap_length a in omega (arith, wide, long)) }
+
+  there_is : (k : ℕ) → k < length s.names → slice_get s.names k ≡ Some (named s (record { 0 = k }))
+  there_is k below = some_at s.names k below where
+    some_at : (xs : List Named) (k : ℕ) → k < length xs → slice_get xs k ≡ Some (unwrap_or (slice_get xs k) names.unbound)
+    some_at [] k below = absurd (omega (arith, below))
+    some_at (x ∷ xs) zero below = refl
+    some_at (x ∷ xs) (suc k) below = some_at xs k (omega (arith, below))
+
+  module _ (d : By) (n : ℕ) where
+    abbrev told : Named → Told
+    told = told_name d n slots
+
+    abbrev turned : Named → Told
+    turned = told_name d n others
+
+    told_first : turned (named s second) ≡ told (named s first)
+    told_first =
+        let bound : bound_to d others (named s second).id ≡ bound_to d slots (named s first).id =
+        ap (bound_to d others) bound_y ∙ ap (bound_by d) (held_mirrored a s t.y ∙ ap (option_map (moved_content (swap a))) held_y)
+        ∙ ap (λ c. bound_by d (Some c)) moved_y ∙ sym (ap (bound_by d) held_x) ∙ sym (ap (bound_to d slots) bound_x) in
+        λ i. record { bound = bound i; calls = capped_calls n (sym t.calls i) }
+
+    told_second : turned (named s first) ≡ told (named s second)
+    told_second =
+        let bound : bound_to d others (named s first).id ≡ bound_to d slots (named s second).id =
+        ap (bound_to d others) bound_x ∙ ap (bound_by d) (held_mirrored a s t.x ∙ ap (option_map (moved_content (swap a))) held_x)
+        ∙ ap (λ c. bound_by d (Some c)) moved_x ∙ sym (ap (bound_by d) held_y) ∙ sym (ap (bound_to d slots) bound_y) in
+        λ i. record { bound = bound i; calls = capped_calls n (t.calls i) }
+
+    told_other : (k : ℕ) → (k ≡ a → ⊥) → (k ≡ a + 1 → ⊥) → option_map turned (slice_get s.names k) ≡ option_map told (slice_get s.names k)
+    told_other k no_a no_b = by (slice_get s.names k) refl where
+      held_same : (x : Named) (id : Id) → slice_get s.names k ≡ Some x → x.id ≡ Some id → (c : Option Content) → held slots id ≡ c
+          → option_map (moved_content (swap a)) c ≡ c
+      held_same x id at binds None e = refl
+      held_same x id at binds (Some c) e =
+          let named_k : (named s (record { 0 = k })).id ≡ Some id = ap (λ y. (unwrap_or y names.unbound).id) at ∙ binds in
+          let name = regular.tidy.alone (record { 0 = k }) id c named_k e in
+          ap Some (content_stays c (ap (λ (v : Var). place_of (swap a) v.0) name ∙ other_stays a k no_a no_b ∙ sym (ap (λ (v : Var). v.0) name)))
+
+      bound_same : (x : Named) (o : Option Id) → slice_get s.names k ≡ Some x → x.id ≡ o → bound_to d others o ≡ bound_to d slots o
+      bound_same x None at binds = refl
+      bound_same x (Some id) at binds = ap (bound_by d) (held_mirrored a s id ∙ held_same x id at binds (held slots id) refl)
+
+      by : (x : Option Named) → slice_get s.names k ≡ x → option_map turned x ≡ option_map told x
+      by None at = refl
+      by (Some x) at = let bound = bound_same x x.id at refl in λ i. Some (record { bound = bound i; calls = capped_calls n x.calls })
+
+    names_same : map turned (mirrored a s).names ≡ map told s.names
+    names_same = same_lists (map turned (mirrored a s).names) (map told s.names) (λ k.
+        slice_get-map turned (mirrored a s).names k ∙ ap (option_map turned) (got k) ∙ by k (k == a) (k == a + 1) refl refl
+        ∙ sym (slice_get-map told s.names k))
+      where
+        got : (k : ℕ) → slice_get (mirrored a s).names k ≡ slice_get s.names (place_of (swap a) k)
+        got k = ap (slice_get (mirrored a s).names) (sym (twice_stays a k)) ∙ get_arranged (swap a) s.names (place_of (swap a) k) fits
+
+        by : (k : ℕ) (b c : Bool) → (k == a) ≡ b → (k == a + 1) ≡ c
+            → option_map turned (slice_get s.names (place_of (swap a) k)) ≡ option_map told (slice_get s.names k)
+        by k true c is other =
+            let one : k ≡ a = is_equal k a is in
+            ap (λ m. option_map turned (slice_get s.names (place_of (swap a) m))) one
+            ∙ ap (λ m. option_map turned (slice_get s.names m)) (first_goes a)
+            ∙ ap (option_map turned) (there_is (a + 1) (omega (arith, wide))) ∙ ap Some told_first
+            ∙ sym (ap (option_map told) (there_is a (omega (arith, wide)))) ∙ ap (λ m. option_map told (slice_get s.names m)) (sym one)
+        by k false true is other =
+            let one : k ≡ a + 1 = is_equal k (a + 1) other in
+            ap (λ m. option_map turned (slice_get s.names (place_of (swap a) m))) one
+            ∙ ap (λ m. option_map turned (slice_get s.names m)) (second_goes a)
+            ∙ ap (option_map turned) (there_is a (omega (arith, wide))) ∙ ap Some told_second
+            ∙ sym (ap (option_map told) (there_is (a + 1) (omega (arith, wide)))) ∙ ap (λ m. option_map told (slice_get s.names m)) (sym one)
+        by k false false is other =
+            let no_a : k ≡ a → ⊥ = differs k a is in
+            let no_b : k ≡ a + 1 → ⊥ = differs k (a + 1) other in
+            ap (λ m. option_map turned (slice_get s.names m)) (other_stays a k no_a no_b) ∙ told_other k no_a no_b
+
+    tale_same : tale_by d n (mirrored a s) ≡ tale_by d n s
+    tale_same =
+        let place = place_same a s.place t.place in
+        let used = length-map slots (moved_slot (swap a)) in
+        let ready = list_same s.ready ready_other in
+        let idle = walk_same s.watchers.idle (watchers_other watcher.Idle) in
+        let prepare = walk_same s.watchers.prepare (watchers_other watcher.Prepare) in
+        let check = walk_same s.watchers.check (watchers_other watcher.Check) in
+        let async = walk_same s.watchers.async (watchers_other watcher.Async) in
+        let closing = walk_same s.closing closing_other in
+        let waiting = list_same s.waiting waiting_other in
+        let done = walk_same s.done done_other in
+        λ i. record {
+          place = retimed_place (earlier d) (capped_place n (place i));
+          names = names_same i;
+          used = used i;
+          unused = s.arena.unused;
+          ready = ready i;
+          idle = idle i;
+          prepare = prepare i;
+          check = check i;
+          async = async i;
+          closing = closing i;
+          waiting = waiting i;
+          running = runs_same i;
+          done = done i;
+          numbers = numbers_at d s;
+        }
+
+  base_same : base (mirrored a s) ≡ base s
+  base_same =
+      let place = place_same a s.place t.place in
+      λ i. record { ms = or_over (place i) (or_first s.timers (min s.time s.clock)); starts = least_start s.timers s.next_start }
+
+  pub twins_alike : (n : ℕ) → by_name p n (mirrored a s) ≡ by_name p n s
+  twins_alike n = tales_tell p n (mirrored a s) s (mirrored_regular a s wide p regular) regular
+      (ap (λ d. tale_by d n (mirrored a s)) base_same ∙ tale_same (base s) n)

@@ -1,0 +1,7 @@
+use Rattle.std.proofs.Common.{◌≡◌}
+use Rattle.uv_asking.specs.Asked.{asked_in}
+use Rattle.uv_find.specs.Mates.{mates_of}
+use Rattle.uv_find.proofs.mates.mates_of.Given as goal
+
+abbrev pub invariant-names : goal.invariant-names
+invariant-names l = l.mates.items ≡ mates_of l.script (asked_in l.asking) l.first

@@ -1,0 +1,8 @@
+use Rattle.std.proofs.Common.{◌≡◌, drop}
+use Rattle.std.specs.List.{list_all}
+use Rattle.uv_find.specs.Holding.{test_of}
+use Rattle.uv_find.specs.Ops.{of_main}
+use Rattle.uv_find.proofs.ops.holds_in_main_from.Given as goal
+
+abbrev pub invariant-lines : goal.invariant-lines
+invariant-lines l = list_all (of_main (test_of l.test)) (drop l.line l.script.main) ≡ list_all (of_main (test_of l.test)) (drop l.first l.script.main)
