@@ -2,7 +2,7 @@
 tests/find/forgetting [N] [--seed N] [--jobs N] [--states N] [--find PROGRAM]
 
 Random scripts (scripts.py; their numbers are the seeds) of which a search needs to know no more than forms by names, or may hold moves back, are
-searched by the program twice: without the line `full` and with it. The answers must agree, and so must the steps of `found`; of `never`, the
+searched by the program twice: without the line `full` and with it; with --alike, scripts in which requests are alike. The answers must agree, and so must the steps of `found`; of `never`, the
 states with `full` are no fewer. Each third script is one where moves may be held back. Scripts of which one search isn't settled within --states
 are passed over, and the slow search of tests/find/run looks at no state here. Where something is wrong, the input is left in out/find/. Status 1
 if anything was, or if one kind of answer never came, or if no search kept fewer states by forgetting, or none by holding back. For the hand."""
@@ -36,13 +36,13 @@ class Tried(NamedTuple):
     holds: bool = False
 
 
-def question(seed: int, states: int) -> str:
+def question(seed: int, states: int, alike: bool) -> str:
     """The script of this number, without bounds of the clock and of states but this one: it may forget, if nothing else is against it. In each
     third one no name has a bound, and moves may be held back. In half of the others all names have a bound, so that there is an end of whole
     states, too."""
     draw = Random(seed)
     is_of_pool = seed % 3 == 0
-    lines = scripts.script(draw, is_of_pool).rstrip("\n").split("\n")
+    lines = (scripts.alike(draw) if alike else scripts.script(draw, is_of_pool)).rstrip("\n").split("\n")
     kept = [line for line in lines if not line.startswith(("most clock ", "most states ", "full"))]
     names = [line.split(" ")[1] for line in lines if line.startswith("var ")] if seed % 2 and not is_of_pool else []
     bounds = [f"most {name} {draw.choice([2, 3, 4])}" for name in names if not any(line.startswith(f"most {name} ") for line in lines)]
@@ -69,8 +69,8 @@ def difference(short: answer.Answer, whole: answer.Answer, fewer: int) -> str:
     return "" if short.within == whole.within else "with `full` it names other bounds"
 
 
-def try_script(program: str, states: int, seed: int) -> Tried:
-    text = question(seed, states)
+def try_script(program: str, states: int, alike: bool, seed: int) -> Tried:
+    text = question(seed, states, alike)
     what = asked.read(text)
     holds = holding.holds_back(what)
     if not normal.may_forget(what) and not holds:
@@ -95,7 +95,7 @@ def try_all(words: argparse.Namespace, tries: Tries) -> tuple[Counter[str], Coun
         while tries.count < words.count:
             some = range(seed, seed + min(50, words.count - tries.count))
             seed = some.stop
-            for one in pool.map(try_script, [words.find] * len(some), [words.states] * len(some), some):
+            for one in pool.map(try_script, [words.find] * len(some), [words.states] * len(some), [words.alike] * len(some), some):
                 kinds[one.kind] += 1
                 fewer["holding" if one.holds else "forgetting"] += one.fewer > 0
                 held += one.holds
@@ -104,7 +104,7 @@ def try_all(words: argparse.Namespace, tries: Tries) -> tuple[Counter[str], Coun
                 if one.wrong:
                     folder = ROOT / "out/find"
                     folder.mkdir(parents=True, exist_ok=True)
-                    (folder / f"forgetting-{one.seed}.input").write_text(question(one.seed, words.states), encoding="ascii")
+                    (folder / f"forgetting-{one.seed}.input").write_text(question(one.seed, words.states, words.alike), encoding="ascii")
     tries.say(f"{held} of those that are compared may hold moves back")
     return kinds, fewer
 
@@ -116,6 +116,7 @@ def main() -> int:
     reader.add_argument("--jobs", type=int, default=2, metavar="N", help="how many scripts at a time (2)")
     reader.add_argument("--states", type=int, default=30_000, metavar="N", help="so many states at the most (30000)")
     reader.add_argument("--find", default=os.environ.get("UVT_FIND", str(BUILT)), metavar="PROGRAM", help="the search (crates/uvt_find/out/uvt_find)")
+    reader.add_argument("--alike", action="store_true", help="only scripts in which half of the requests or more are alike")
     words = reader.parse_args()
     if min(words.count, words.states, words.jobs) < 1 or words.seed < 0:
         reader.error("these numbers are 1 and more")
@@ -126,5 +127,6 @@ def main() -> int:
     kinds, fewer = try_all(words, tries)
     tries.say(", ".join(f"{number} {kind}" for kind, number in kinds.most_common()))
     tries.say(f"fewer states: {fewer['holding']} of these, and {fewer['forgetting']} of the others")
-    tries.check("each answer comes, some forget, and some hold back", kinds["found"] and kinds["never"] and all(fewer[it] for it in HOW))
+    some = fewer["holding"] if words.alike else all(fewer[it] for it in HOW)
+    tries.check("each answer comes, some forget, and some hold back", kinds["found"] and kinds["never"] and some)
     return tries.end()

@@ -5,9 +5,10 @@ search in Python (slow.py) that has no loop of its own and asks `uvt debug` for 
 of `never` the number of states and the bounds, too; and the session of a `found` must run in `uvt debug`: each step is offered there, is
 accepted and keeps the bounds, and the last one answers. Where the search may forget (normal.py), the slow one counts forms by names, else
 whole states. Where it may hold moves back (holding.py), as in each fourth script, the slow one goes deep first, too, holds them back, and
-counts the places that it keeps then. Scripts with more places than --places are passed over, if the search doesn't answer `never` within as
-many. Where something is wrong, the input and the answer are left in out/find/. Status 1 if anything was, or if with 1,000 scripts and more some
-kind of question was never answered by `found`, or by `never`, or if no move was held back.
+counts the places that it keeps then. Where requests are alike (alike.py), as in each eighth script, it finishes the first of them first, too.
+Scripts with more places than --places are passed over, if the search doesn't answer `never` within as many.
+Where something is wrong, the input and the answer are left in out/find/. Status 1 if anything was, or if with 1,000 scripts and more some kind
+of question was never answered by `found`, or by `never`, or if no move was held back, or no requests were alike.
 
 With --slow FILE the slow search alone answers an input."""
 import argparse
@@ -19,6 +20,7 @@ from concurrent.futures import ProcessPoolExecutor
 from random import Random
 from typing import Counter as Count, List, NamedTuple, Optional, Sequence, Tuple
 
+from tests.find import alike
 from tests.find import answer
 from tests.find import asked
 from tests.find import holding
@@ -39,6 +41,7 @@ class Plan(NamedTuple):
     uvt: str
     find: str
     places: int
+    alike: bool = False
 
 
 class Tried(NamedTuple):
@@ -50,6 +53,8 @@ class Tried(NamedTuple):
     forgets: bool = False
     # moves were held back: fewer places are kept than there are
     holds: bool = False
+    # some of its requests are alike
+    alike: bool = False
 
 
 def save(seed: int, text: str, output: str) -> None:
@@ -62,8 +67,10 @@ def save(seed: int, text: str, output: str) -> None:
 
 def script_of(plan: Plan, seed: int) -> str:
     """The script of this number, and what is asked of it: of each four, one of the orders that differ from a recording, and one where moves may
-    be held back."""
+    be held back; of two of these, one has requests that are alike. With `--alike` all have."""
     draw = Random(seed)
+    if plan.alike or seed % 8 == 6:
+        return scripts.alike(draw)
     text = scripts.script(draw, seed % 4 == 2)
     if seed % 4:
         return text
@@ -103,7 +110,7 @@ def try_script(plan: Plan, seed: int) -> Tried:
     why = answer.wrong(plan.uvt, what, settled, got)
     if why:
         save(seed, text, ended.stdout)
-    return Tried(seed, (question, got.kind), why, normal.may_forget(what), settled.kept != settled.places)
+    return Tried(seed, (question, got.kind), why, normal.may_forget(what), settled.kept != settled.places, bool(alike.pairs(what)))
 
 
 def try_all(plan: Plan, first: int, count: int, jobs: int) -> Tuple[int, Count[Tuple[str, str]], Count[Tuple[str, str]]]:
@@ -124,6 +131,7 @@ def try_all(plan: Plan, first: int, count: int, jobs: int) -> Tuple[int, Count[T
                     kinds[one.kinds] += 1
                     ways["forgetting", one.kinds[1]] += one.forgets
                     ways["holding", one.kinds[1]] += one.holds
+                    ways["alike", one.kinds[1]] += one.alike
                 if one.wrong:
                     wrong += 1
                     print("find: script %d: %s" % (one.seed, one.wrong), flush=True)
@@ -168,7 +176,7 @@ def plan_of(words: argparse.Namespace) -> Plan:
     find = words.find or os.path.join(ROOT, "crates", "uvt_find", "out", "uvt_find")
     if not words.slow and not is_there(find):
         raise ValueError("there is no search at %s: build it, or name one with --find" % find)
-    return Plan(os.path.abspath(uvt), os.path.abspath(find), words.places)
+    return Plan(os.path.abspath(uvt), os.path.abspath(find), words.places, words.alike)
 
 
 def read_words(words: Sequence[str]) -> argparse.Namespace:
@@ -179,6 +187,7 @@ def read_words(words: Sequence[str]) -> argparse.Namespace:
     reader.add_argument("--find", metavar="PROGRAM", help="the search (crates/uvt_find/out/uvt_find)")
     reader.add_argument("--places", type=int, default=2000, metavar="N", help="the most places of a script that is tried (2000)")
     reader.add_argument("--jobs", type=int, default=3, metavar="N", help="how many scripts at a time (3)")
+    reader.add_argument("--alike", action="store_true", help="only scripts in which half of the requests or more are alike")
     reader.add_argument("--slow", metavar="FILE", help="only answers this input, by the slow search")
     asked_for = reader.parse_args(words)
     if min(asked_for.scripts, asked_for.places, asked_for.jobs) < 1 or asked_for.seed < 0:
@@ -200,13 +209,14 @@ def main() -> int:
         print("find: stopped", file=sys.stderr)
         return 130
     missed = tell(kinds)
-    for way in ("forgetting", "holding"):
+    for way in ("forgetting", "holding", "alike"):
         print("%-10s %6d found %6d never %6d not settled" % (way, ways[way, "found"], ways[way, "never"], ways[way, "not settled"]))
     for what in missed:
         tries.say("never came: " + what)
     if asked_for.scripts >= MANY:
-        tries.check("what may come", not missed, "%d never came" % len(missed))
+        tries.check("what may come", not missed or asked_for.alike, "%d never came" % len(missed))
         tries.check("moves are held back", bool(ways["holding", "never"]))
+        tries.check("requests are alike", bool(ways["alike", "never"]) and bool(ways["alike", "found"]))
     tries.count += sum(kinds.values())
     tries.failed += wrong
     return tries.end()

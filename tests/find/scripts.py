@@ -169,6 +169,32 @@ def script(draw: Random, is_of_pool: bool = False) -> str:
     return "\n".join(lines + ["begin"] + asked) + "\n"
 
 
+def alike(draw: Random) -> str:
+    """The same of a pool: half of its requests, or more, are alike, so that their callbacks do nothing, and mostly nothing is asked of them."""
+    same = ["p", "q", "r"][: draw.choice([2, 2, 3])]
+    kinds = {name: draw.choice(["timer", "timer", "async", "request", "request", "idle"]) for name in ["a", "b"][: draw.choice([1, 1, 2])]}
+    names = list(kinds)
+    at = draw.randrange(len(names) + 1)
+    names[at:at] = same
+    if draw.random() < 0.1:
+        draw.shuffle(names)
+    main = main_of(draw, kinds)
+    begins = next((number for number, line in enumerate(main) if line.startswith("run ")), len(main))
+    for name in same:
+        queue = "queue %s %d x" % (name, draw.choice([1] * 9 + [2]))
+        main.insert(draw.randrange((begins if draw.random() < 0.9 else len(main)) + 1), queue)
+        begins += 1
+    lines = ["workers %d" % draw.choice([1, 2, 2, 3])] + ["order 1.44"] * (draw.random() < 0.15)
+    lines += ["var " + name for name in names] + ["main " + line for line in main]
+    lines += [line for line in bodies_of(draw, kinds) if " cancel " not in line or draw.random() < 0.1]
+    asked = ["may send %s %d" % (name, draw.choice([1, 1, 2])) for name, kind in kinds.items() if kind == "async" and draw.random() < 0.8]
+    asked += ["may tick %d 1" % draw.choice([1, 5, 7])] * (draw.random() < 0.3) + ["may wait"] * (draw.random() < 0.9)
+    asked += ["most %s %d" % (name, draw.choice([1, 2])) for name, kind in kinds.items() if kind == "idle" or draw.random() < 0.4]
+    asked += ["most %s 1" % draw.choice(same)] * (draw.random() < 0.05)
+    kinds.update({name: "request" for name in same} if draw.random() < 0.15 else {})
+    return "\n".join(lines + ["begin"] + asked + ["find " + question_of(draw, kinds)]) + "\n"
+
+
 def steps_of(draw: Random, asked: Asked) -> List[str]:
     """The steps from outside of which a recording of this script may have some: workers take and finish, and what the script offers."""
     offered = ["%s %s" % (offer.word, offer.argument) for offer in asked.offers if offer.word != "wait"]

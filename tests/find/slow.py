@@ -4,6 +4,7 @@ from collections import deque
 from dataclasses import dataclass
 from typing import Deque, Dict, Iterator, List, NamedTuple, Optional, Set, Tuple
 
+from tests.find import alike
 from tests.find import holding
 from tests.find import normal
 from tests.find import recording
@@ -313,8 +314,10 @@ def search_from(loop: Loop, asked: Asked, first: Place, cap: int) -> Settled:
 
 def places_kept(loop: Loop, asked: Asked, first: Place, cap: int) -> Optional[int]:
     """How many places a search keeps that goes deep first and holds moves back: where a move is apart and led to a place that is done, those behind
-    it aren't tried. A place is done once no move is left to try there. None where there are more than so many."""
+    it aren't tried. A place is done once no move is left to try there. Of two requests that are alike and run, the second one's finish isn't tried.
+    None where there are more than so many."""
     calls, ops, ticks = normal.calls_told(asked), holding.Ops(asked.script), holding.may_tick(asked)
+    pairs = alike.pairs(asked)
     holds, always = holding.may_hold(asked), {"take"} if holding.takes_at_once(asked) else set()
     is_done: Dict[object, bool] = {}
     way: List[Visit] = []
@@ -323,7 +326,8 @@ def places_kept(loop: Loop, asked: Asked, first: Place, cap: int) -> Optional[in
         key = place.key(calls)
         is_done[key] = False
         apart = always | ({"loop"} if holds and ops.is_loop_apart(ticks, place.state) else set())
-        way.append(Visit(key, steps, place, moves(loop, asked, place, []), apart))
+        tried = (move for move in moves(loop, asked, place, []) if not alike.covered(asked, pairs, place.state, move.command))
+        way.append(Visit(key, steps, place, tried, apart))
 
     visit((), first)
     while way:
