@@ -1,4 +1,4 @@
-"""The search against a slow one: tests/find/run [--scripts N] [--seed N] [--uvt PROGRAM] [--find PROGRAM]
+"""The search against a slow one: tests/find/run [--scripts N] [--seed N] [--alike] [--uvt PROGRAM] [--find PROGRAM]
 
 Random scripts with one to four names (scripts.py; their numbers are the seeds) are searched twice: by the program, and breadth first by a
 search in Python (slow.py) that has no loop of its own and asks `uvt debug` for each step and each state. The kinds of answer must agree;

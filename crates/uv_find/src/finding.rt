@@ -1,5 +1,5 @@
 //! A search through all orders.
-ghost use Rattle.std.specs.Prelude.{◌≡◌, false};
+ghost use Rattle.std.specs.Prelude.{◌≡◌, ◌+◌, ◌*◌, min, false};
 ghost use Rattle.uv_find.specs.Found.{AreRegular, Finds, KeysTell, EachFinishes};
 ghost use Rattle.uv_find.specs.Questions.{place_answers};
 ghost use Rattle.uv_find.specs.Within.{NearIsWithin};
@@ -18,7 +18,9 @@ const EFFORT_EACH: usize = 1_024;
 const EFFORT_MOST: usize = 2_097_152;
 
 /// How many moves that may take, where so many places were kept.
-fn effort(keys: usize) -> usize {
+fn effort(keys: usize) -> usize
+    ensures { result ≡ min (keys * 1024 + 65536) 2097152 }
+{
     keys.saturating_mul(EFFORT_EACH)
         .saturating_add(EFFORT)
         .min(EFFORT_MOST)
