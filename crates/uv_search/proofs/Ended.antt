@@ -9,8 +9,8 @@ use Rattle.uv_search.proofs.KeyLists.{number_of}
 use Rattle.uv_search.proofs.Held.{Ends, ends_by, same_step, room_for, ends_alike, ends_behind}
 use Rattle.uv_search.proofs.Standing.{Done, IsDone, Keeps, here_done, none_made, are_keys}
 
-module _ {P : Type 0} (moves : P → ℕ) (next : P → ℕ → Option (P × Bool)) (key : P → List ℕ) (IsPlace IsDeep : P → Type 0) (apart covered : P → ℕ → Bool)
-    (begin : P) (first : List P) (seen : List (List ℕ)) where
+module _ {P : Type 0} (moves : P → ℕ) (next : P → ℕ → Option (P × Bool)) (key : P → List ℕ) (IsPlace IsDeep : P → Type 0)
+    (apart covered : P → ℕ → Bool) (begin : P) (first : List P) (seen : List (List ℕ)) where
   -- the place of a key that was seen, at which all is done
   record IsClosed (k : List ℕ) : Type 0 where
     place : P
@@ -130,8 +130,8 @@ module _ {P : Type 0} (moves : P → ℕ) (next : P → ℕ → Option (P × Boo
     none_told zero few h p is l = absurd (omega (arith, l))
     none_told (suc n) few h p is l = by n (omega (arith, few)) (none_told n (omega (arith, few))) h p is (omega (arith, l))
 
-module _ {P : Type 0} (moves : P → ℕ) (next : P → ℕ → Option (P × Bool)) (key : P → List ℕ) (IsPlace IsDeep : P → Type 0) (apart covered : P → ℕ → Bool)
-    (begin : P) (first : List P) (IsReached : P → Type 0)
+module _ {P : Type 0} (moves : P → ℕ) (next : P → ℕ → Option (P × Bool)) (key : P → List ℕ) (IsPlace IsDeep : P → Type 0)
+    (apart covered : P → ℕ → Bool) (begin : P) (first : List P) (IsReached : P → Type 0)
     (alike : (p q : P) → IsReached p → IsPlace q → key p ≡ key q → CoversMoves moves next key p q)
     (stands : (p : P) → IsPlace p → IsReached p)
     (leads : (p : P) (i : ℕ) (q : P) (b : Bool) → IsReached p → i < moves p → next p i ≡ Some (q, b) → IsReached q)
@@ -194,10 +194,12 @@ module _ {P : Type 0} (moves : P → ℕ) (next : P → ℕ → Option (P × Boo
       tried holds x has =
           let w = closed x has in (w.place, w.is, w.good, by w.place (λ number. holds w.way w.place number w.leads) w.done)
         where
-          by : (w : P) → ((number : ℕ) → (apart w number ≡ false) × (covered w number ≡ false)) → IsDone moves next key IsPlace IsDeep apart covered begin first seen w
+          by : (w : P) → ((number : ℕ) → (apart w number ≡ false) × (covered w number ≡ false))
+              → IsDone moves next key IsPlace IsDeep apart covered begin first seen w
               → AllTried moves next key IsPlace IsDeep apart covered begin first seen w
           by w none (zero, d) = λ i q b offered goes. d i offered offered (none i).1 q b goes
-          by w none (suc h, (number, m, v, is, offered, goes, same_key, good, d, has)) = absurd (let f : true ≡ false = sym is ∙ (none number).0 in cc)
+          by w none (suc h, (number, m, v, is, offered, goes, same_key, good, d, has)) =
+              absurd (let f : true ≡ false = sym is ∙ (none number).0 in cc)
 
       told : (is : List ℕ) (i : ℕ) (q : P) → IsTold (length is + 2) → Answers moves next begin is i q → ⊥
       told is i q t a =
@@ -210,6 +212,7 @@ module _ {P : Type 0} (moves : P → ℕ) (next : P → ℕ → Option (P × Boo
           (subst (λ m. HasRoom (suc m) begin) (sym long) (room (suc (length is + 1)) begin standing told_so)) in
           let near : HasRoom (length (is ++ i ∷ [])) w.place = fewer (length (is ++ i ∷ [])) w.place
           (subst (λ m. HasRoom (suc m) w.place) (sym long) (room (suc (length is + 1)) w.place w.good told_so)) in
-          none_told moves next key IsPlace IsDeep apart covered begin first seen IsTold HasRoom room fewer follows same meet covers closed (length is + 1) told_so
+          none_told moves next key IsPlace IsDeep apart covered begin first seen IsTold HasRoom room fewer follows same meet covers closed
+          (length is + 1) told_so
           (suc (length is + 1)) (omega arith) w.done.0 w.place (is ++ i ∷ []) (omega (arith, long)) w.good w.done.1
           (ends_alike moves next key apart HasRoom fewer follows same meet (is ++ i ∷ []) begin w.place far near (sym w.is) ways)
