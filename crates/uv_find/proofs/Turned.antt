@@ -11,7 +11,6 @@ use Rattle.uv_ids.specs.declared.id.Var.{Var}
 use Rattle.uv_ids.specs.declared.seen.Callback.{Callback}
 use Rattle.uv_ids.specs.declared.seen.Callback.TheVariants as callback
 use Rattle.uv_script.specs.declared.op.Op.{Op}
-use Rattle.uv_script.specs.declared.op.Op.TheVariants as op
 use Rattle.uv_script.specs.declared.op.MainOp.{MainOp}
 use Rattle.uv_script.specs.declared.op.MainOp.TheVariants as main
 use Rattle.uv_script.specs.declared.op.CallbackLine.{CallbackLine}
@@ -51,28 +50,7 @@ use Rattle.uv_find.proofs.Twins.{beside_stays, beside_var}
 -- ---- the script says the same
 
 op_same : (a : ℕ) (o : Op) → spares a o ≡ true → changed_op (by_names (swap a)) o ≡ o
-op_same a (op.Init v k) e = ap (λ x. op.Init x k) (beside_var a v e)
-op_same a (op.Queue v task) e = ap (λ x. op.Queue x task) (beside_var a v e)
-op_same a (op.Cancel v) e = ap op.Cancel (beside_var a v e)
-op_same a (op.Start v timeout repeat) e = ap (λ x. op.Start x timeout repeat) (beside_var a v e)
-op_same a (op.StartWatcher v) e = ap op.StartWatcher (beside_var a v e)
-op_same a (op.Stop v) e = ap op.Stop (beside_var a v e)
-op_same a (op.Again v) e = ap op.Again (beside_var a v e)
-op_same a (op.SetRepeat v repeat) e = ap (λ x. op.SetRepeat x repeat) (beside_var a v e)
-op_same a (op.DueIn v) e = ap op.DueIn (beside_var a v e)
-op_same a (op.Close v) e = ap op.Close (beside_var a v e)
-op_same a (op.Ref v) e = ap op.Ref (beside_var a v e)
-op_same a (op.Unref v) e = ap op.Unref (beside_var a v e)
-op_same a (op.HasRef v) e = ap op.HasRef (beside_var a v e)
-op_same a (op.IsActive v) e = ap op.IsActive (beside_var a v e)
-op_same a (op.IsClosing v) e = ap op.IsClosing (beside_var a v e)
-op_same a (op.Send v) e = ap op.Send (beside_var a v e)
-op_same a op.CloseLoop e = refl
-op_same a op.StopLoop e = refl
-op_same a op.UpdateTime e = refl
-op_same a op.Now e = refl
-op_same a op.IsAlive e = refl
-op_same a op.Timeout e = refl
+op_same a o e = grind (arith, (beside_var a))
 
 lines_same : (a : ℕ) (ls : List CallbackLine) → of_lines (spares a) ls ≡ true → map (changed_callback (by_names (swap a))) ls ≡ ls
 lines_same a [] e = refl
