@@ -52,7 +52,7 @@ def make_program(log: Log, events: Events, loop: int = 0) -> Program:
     maker.name_last()
     program = maker.program
     asked = {it.place for it in maker.items if isinstance(it, Op)} | {it.place for it in program.requests} | {it.place for it in program.nothings}
-    program.places = {place: told for place in asked if (told := log.place(place))}
+    program.places = {place: told for place in sorted(asked) if (told := log.place(place))}
     program.javascript = maker.javascript.done(maker.called() if maker.javascript.raw else [])
     for it in maker.ended() if program.javascript else ():
         program.javascript.note_most((it.call.callback, it.call.name, it.call.number), it.call.clock, it.clock)
