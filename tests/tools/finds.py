@@ -34,12 +34,12 @@ JAVASCRIPT, LOGS = (ROOT / "tests" / "tools" / it for it in ("javascript/node20"
 FOUND, NEVER, BAD, UNSETTLED, INTERRUPTED = 0, 1, 2, 3, 130
 # (what a question may take is by the clock, and more on a busy machine)
 LONG = ["--for", "600"]
-# A pool of eight with twelve requests, whose orders no search settles within some seconds.
+# A pool of eight with twelve requests, each with a text of its own so that no two are alike. No search settles their orders within some seconds.
 ENDLESS = "\n".join(
     [
         "workers 8",
         *(f"var r{at}" for at in range(12)),
-        *(f"main queue r{at} 1" for at in range(12)),
+        *(f"main queue r{at} 1 {at}" for at in range(12)),
         "main run default",
         "begin",
         "find code EBUSY",
@@ -195,7 +195,7 @@ def try_lines(check: Check, folder: str) -> None:
     check("find, without full", ran.stdout == "never: 159 states, every order\n", ran)
     apart = os.path.join(folder, "apart")
     Path(apart).write_text(growing(2, 2, 0), encoding="ascii")
-    for states, word in ((202, ""), (706, "--full")):
+    for states, word in ((139, ""), (706, "--full")):
         ran = run([apart, *word.split()])
         check(f"find, {states} states of a pool", (ran.returncode, ran.stdout) == (NEVER, f"never: {states} states, every order\n"), ran)
     ran = run([str(EXAMPLES / "server.find")])
@@ -249,12 +249,13 @@ def try_interrupted(check: Check, folder: str) -> None:
     search = subprocess.Popen(
         [TOOL, str(path)], stdout=subprocess.PIPE, stderr=theirs, text=True, preexec_fn=lambda: signal.signal(signal.SIGINT, signal.SIG_DFL)
     )
+    # (so that a search that ends is seen to have ended)
+    os.close(theirs)
     shown = come_to(ours, b" states")
     check("find, how far it is", re.search(rb"\r\x1b\[Kuvt find: searching, \d+:\d\d, more than 10+ states", shown), shown)
     search.send_signal(signal.SIGINT)
     out, _ = talked(search)
     os.close(ours)
-    os.close(theirs)
     wanted = r"not settled within 10+ states: interrupted\n"
     check("find, interrupted", search.returncode == INTERRUPTED and re.fullmatch(wanted, out), (search.returncode, out, shown))
 
