@@ -91,7 +91,7 @@ struct object *made(uv_loop_t *uv, void *handle, const char *kind, bool watcher)
     object->type = CALL(uv_handle_get_type)(handle);
     object->size = (int)CALL(uv_handle_size)(object->type);
     watch_memory(object);
-    write_line(object->loop, 'O', "init %%%d %s = ok", object->id, kind);
+    write_made(object, "init", kind);
     /* (what goes by before the loop runs counts as well) */
     if (in_callback != object->loop) note_share_now(object->loop);
     name_place(object);
@@ -282,7 +282,7 @@ static void on_closed(uv_handle_t *handle) {
     int id = object->id;
     settle_all(loop, object);
     loop->begun++, loop->away++;
-    write_line(loop, 'B', "closed %d", id);
+    write_closed(loop, id);
     drop(object); /* the callback may free the memory, or make a new handle there */
     unlock();
     if (callback) PROGRAM(callback(handle));

@@ -28,6 +28,7 @@ __thread bool passing;
 __thread const char *called;
 __thread const void *called_from;
 static __thread int locked;
+static __thread int held;
 static pthread_mutex_t mutex = PTHREAD_RECURSIVE_MUTEX_INITIALIZER_NP;
 static char prefix[3072];
 static int file = -1;
@@ -43,25 +44,33 @@ REAL(uv_now)
 REAL(uv_err_name)
 REAL(uv_version_string)
 
-/* (counted before the mutex is taken, and until it is given back: a signal's handler that comes in between, and sends, must not wait for
- * what it has interrupted. Who waits in a callback for another thread that is at a line has a line of it: that is the recorder's doing, and
- * nobody else's) */
-void lock(void) {
-    struct wait wait;
-    bool outermost = locked++ == 0;
-    atomic_signal_fence(memory_order_seq_cst);
-    bool waits = in_callback && outermost && pthread_mutex_trylock(&mutex) != 0;
-    if (waits) wait = (struct wait){.loop = in_callback, .begin = clock_ms()};
-    if (waits || !in_callback || !outermost) really_lock(&mutex);
-    uint64_t took = waits && !off && !forces() ? clock_ms() - wait.begin : 0;
+/* (who waits in a callback for another thread that is at a line has a line of it: that is the recorder's doing, and nobody else's) */
+static void __attribute__((noinline)) wait_for_lock(void) {
+    struct wait wait = {.loop = in_callback};
+    if (wait.loop) wait.begin = clock_ms();
+    really_lock(&mutex);
+    uint64_t took = wait.loop && !off && !forces() ? clock_ms() - wait.begin : 0;
     const void *from = called_from;
     called_from = NULL;
     if (took >= 2) write_wait(wait.loop, "recorder", took, "");
     called_from = from;
 }
 
+/* (`locked` is counted before the mutex is taken, and until it is given back: a signal's handler that comes in between, and sends, must not wait
+ * for what it has interrupted. `held` is counted only while it is taken, so that it is taken once however deep; a handler that comes in between
+ * takes it once more) */
+void lock(void) {
+    locked++;
+    atomic_signal_fence(memory_order_seq_cst);
+    if (!held && pthread_mutex_trylock(&mutex) != 0) wait_for_lock();
+    atomic_signal_fence(memory_order_seq_cst);
+    held++;
+}
+
 void unlock(void) {
-    pthread_mutex_unlock(&mutex);
+    held--;
+    atomic_signal_fence(memory_order_seq_cst);
+    if (!held) pthread_mutex_unlock(&mutex);
     atomic_signal_fence(memory_order_seq_cst);
     locked--;
 }
@@ -71,13 +80,13 @@ pid_t who_writes(void) {
 }
 
 int unlock_all(void) {
-    int held = locked;
-    for (int at = 0; at < held; at++) unlock();
-    return held;
+    int depth = held;
+    for (int at = 0; at < depth; at++) unlock();
+    return depth;
 }
 
-void lock_again(int held) {
-    while (held-- > 0) lock();
+void lock_again(int depth) {
+    while (depth-- > 0) lock();
 }
 
 bool is_locked_here(void) {
@@ -253,15 +262,7 @@ static const char PAIRS[] =
     "0001020304050607080910111213141516171819202122232425262728293031323334353637383940414243444546474849"
     "5051525354555657585960616263646566676869707172737475767778798081828384858687888990919293949596979899";
 
-static char *put_long(char *to, uint64_t number) {
-    size_t length = 3;
-    for (uint64_t bound = 1000; number >= bound && length < DIGITS; bound *= 10) length++;
-    char *end = to + length;
-    for (to = end; number >= 100; number /= 100) memcpy(to -= 2, PAIRS + 2 * (number % 100), 2);
-    if (number >= 10) memcpy(to - 2, PAIRS + 2 * number, 2);
-    else to[-1] = (char)('0' + number);
-    return end;
-}
+static char *put_long(char *to, uint64_t number);
 
 static inline char *put_number(char *to, uint64_t number) {
     if (number >= 100) return put_long(to, number);
@@ -271,6 +272,12 @@ static inline char *put_number(char *to, uint64_t number) {
     }
     *to = (char)('0' + number);
     return to + 1;
+}
+
+static char *put_long(char *to, uint64_t number) {
+    to = put_number(to, number / 100);
+    memcpy(to, PAIRS + 2 * (number % 100), 2);
+    return to + 2;
 }
 
 static inline void add_number(struct line *line, uint64_t number) {
@@ -531,26 +538,43 @@ void write_line(struct loop *loop, char type, const char *format, ...) {
     write_rest(loop, type, &rest);
 }
 
+/* ---- the lines that most logs are made of take no format */
+
+#define PUT(TO, TEXT) ((char *)memcpy(TO, TEXT, sizeof(TEXT) - 1) + sizeof(TEXT) - 1)
+
+static inline void end_rest(struct loop *loop, char type, struct line *rest, char *to) {
+    *to = 0;
+    rest->length = (size_t)(to - rest->text);
+    write_rest(loop, type, rest);
+}
+
 void write_begin(struct loop *loop, int id, const char *what, const char *known) {
     struct line rest;
     const char *end = rest.text + LINE - ROOM;
-    memcpy(rest.text, "on ", 3);
-    char *to = put_signed(rest.text + 3, id);
+    char *to = put_signed(PUT(rest.text, "on "), id);
     *to++ = ' ';
     to = put_text(to, end, what);
     if (*known && to < end) *to++ = ' ';
-    to = put_text(to, end, known);
-    *to = 0;
-    rest.length = (size_t)(to - rest.text);
-    write_rest(loop, 'B', &rest);
+    end_rest(loop, 'B', &rest, put_text(to, end, known));
+}
+
+void write_closed(struct loop *loop, int id) {
+    struct line rest;
+    end_rest(loop, 'B', &rest, put_signed(PUT(rest.text, "closed "), id));
 }
 
 void write_number(struct loop *loop, char type, int number, const char *behind) {
     struct line rest;
-    char *to = put_text(put_signed(rest.text, number), rest.text + LINE - ROOM, behind);
-    *to = 0;
-    rest.length = (size_t)(to - rest.text);
-    write_rest(loop, type, &rest);
+    end_rest(loop, type, &rest, put_text(put_signed(rest.text, number), rest.text + LINE - ROOM, behind));
+}
+
+void write_pair(struct loop *loop, char type, int one, int other, const char *behind) {
+    struct line rest;
+    char *to = put_signed(rest.text, one);
+    *to++ = ' ';
+    to = put_signed(to, other);
+    *to++ = ' ';
+    end_rest(loop, type, &rest, put_text(to, rest.text + LINE - ROOM, behind));
 }
 
 const char *answer_text(int answer) {
@@ -576,16 +600,42 @@ uint64_t next_start(void) {
     return ++starts;
 }
 
+static inline char *put_op(char *to, const char *end, const char *word, int id) {
+    to = PUT(put_text(to, end, word), " %");
+    return put_signed(to, id);
+}
+
+static inline char *put_answer(char *to, const char *end, int answer) {
+    return answer == 0 ? PUT(to, " = ok") : put_text(PUT(to, " = "), end, answer_text(answer));
+}
+
 void write_op(struct object *object, const char *word, const char *rest, int answer) {
+    struct line line;
+    const char *end = line.text + LINE - ROOM;
     if (!object) return;
     if (answer == 0 && strcmp(word, "start") == 0) object->order = next_start();
-    write_line(object->loop, 'O', "%s %%%d%s = %s", word, object->id, rest, answer_text(answer));
+    char *to = put_text(put_op(line.text, end, word, object->id), end, rest);
+    end_rest(object->loop, 'O', &line, put_answer(to, end, answer));
+}
+
+void write_made(struct object *object, const char *word, const char *kind) {
+    struct line line;
+    const char *end = line.text + LINE - ROOM;
+    char *to = put_op(line.text, end, word, object->id);
+    *to++ = ' ';
+    end_rest(object->loop, 'O', &line, put_answer(put_text(to, end, kind), end, 0));
 }
 
 /* (a timer that is started anew in each of its callbacks has many of these) */
 void write_start(struct object *timer, uint64_t timeout, uint64_t repeat, int answer) {
-    if (answer == 0) timer->order = next_start(), write_line(timer->loop, 'O', "start %%%d %u %u = ok", timer->id, timeout, repeat);
-    else write_line(timer->loop, 'O', "start %%%d %u %u = %s", timer->id, timeout, repeat, answer_text(answer));
+    struct line line;
+    if (answer == 0) timer->order = next_start();
+    char *to = put_signed(PUT(line.text, "start %"), timer->id);
+    *to++ = ' ';
+    to = put_number(to, timeout);
+    *to++ = ' ';
+    to = put_number(to, repeat);
+    end_rest(timer->loop, 'O', &line, put_answer(to, line.text + LINE - ROOM, answer));
 }
 
 /* ---- libuv */
@@ -681,6 +731,7 @@ static void after_fork(void) {
 static void in_child(void) {
     off = true;
     locked = 0;
+    held = 0;
     mutex = (pthread_mutex_t)PTHREAD_RECURSIVE_MUTEX_INITIALIZER_NP;
 }
 

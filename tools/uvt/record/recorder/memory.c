@@ -83,12 +83,7 @@ static bool look_at(struct object *handle, ssize_t got, const uv_handle_t *found
     return true;
 }
 
-void look_at_memory(struct loop *loop) {
-    if (off || !loop->uv || !loop->looked) return;
-    uint64_t now = CALL(uv_now)(loop->uv);
-    if (loop->looks < FEW) loop->looks++;
-    else if (now == loop->looked_at) return;
-    loop->looked_at = now;
+static void __attribute__((noinline)) look_at_some(struct loop *loop) {
     struct object *handles[SOME], *it = loop->looked;
     uv_handle_t found[SOME];
     int count = 0;
@@ -102,6 +97,15 @@ void look_at_memory(struct loop *loop) {
         ssize_t of_this = got - at * HEAD;
         if (!look_at(handles[at], of_this < 0 ? 0 : of_this, &found[at])) return;
     }
+}
+
+void look_at_memory(struct loop *loop) {
+    if (off || !loop->uv || !loop->looked) return;
+    uint64_t now = CALL(uv_now)(loop->uv);
+    if (loop->looks < FEW) loop->looks++;
+    else if (now == loop->looked_at) return;
+    loop->looked_at = now;
+    look_at_some(loop);
 }
 
 void note_made_over(const uv_loop_t *uv, const void *address) {

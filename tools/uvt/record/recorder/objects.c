@@ -321,7 +321,7 @@ void name_callback(struct object *object, void *callback, enum role role, const 
     int place = address_number(callback);
     object->named[role] = callback;
     object->whats[role] = what;
-    if (place >= 0) write_line(object->loop, 'C', "%d %d %s", object->id, place, what);
+    if (place >= 0) write_pair(object->loop, 'C', object->id, place, what);
 }
 
 void forget_objects(void) {
@@ -335,6 +335,6 @@ void name_again(struct object *object) {
     name_place(object);
     for (int role = 0; role < ROLES; role++) {
         int place = object->named[role] ? address_number(object->named[role]) : -1;
-        if (place >= 0) write_line(object->loop, 'C', "%d %d %s", object->id, place, object->whats[role]);
+        if (place >= 0) write_pair(object->loop, 'C', object->id, place, object->whats[role]);
     }
 }

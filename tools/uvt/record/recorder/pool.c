@@ -50,7 +50,7 @@ static struct object *queue(uv_loop_t *uv, void *request, void *callback, void *
 
 static int queued(struct object *object, const char *kind, size_t size, int answer) {
     if (object && answer == 0) {
-        write_line(object->loop, 'O', "queue %%%d %s = ok", object->id, kind);
+        write_made(object, "queue", kind);
         /* (the loop's time is that of its last look, and a long callback may ask for it late) */
         if (is_behind(object->loop)) write_line(object->loop, 'q', "%d", object->id);
         object->size = (int)size;
@@ -138,7 +138,7 @@ static struct work begin_work(void *request) {
         work = (struct work){(uv_work_cb)object->second, object->own, object->id};
         object->taken = true;
         if (!forces()) {
-            write_line(object->loop, 'T', "%d", object->id);
+            write_number(object->loop, 'T', object->id, "");
             in_callback = work.program && !work.own ? object->loop : NULL;
             in_work = object->id + 1;
             note_work(object->id);
@@ -158,7 +158,7 @@ static void end_work(void *request, int id) {
     while (object && object->id != id) object = earlier(object);
     if (object) {
         object->through = true;
-        write_line(object->loop, 'F', "%d", id);
+        write_number(object->loop, 'F', id, "");
     }
     unlock();
 }

@@ -172,9 +172,12 @@ bool is_locked_here(void);
  * of a callback or work that took long enough how long its thread was on the processor.
  * The format knows %d, %u (64 bits), %x (64 bits) and %s. */
 void write_line(struct loop *loop, char type, const char *format, ...);
-/* The lines that most logs are made of: a callback begins, or ends, and a poll. They take no format. */
+/* The lines that most logs are made of: a callback begins, or that of a close; it ends, or a poll begins; two numbers and a text. They take no
+ * format. */
 void write_begin(struct loop *loop, int id, const char *what, const char *known);
+void write_closed(struct loop *loop, int id);
 void write_number(struct loop *loop, char type, int number, const char *behind);
+void write_pair(struct loop *loop, char type, int one, int other, const char *behind);
 /* May a file have this size? (Past its limit the program would be ended by a signal.) */
 bool may_grow_to(size_t size);
 /* The clock, in ms. */
@@ -186,6 +189,8 @@ int workers(void);
 void write_workers(void);
 /* `LOOP O NOW WORD %ID REST = ANSWER`; nothing where there is no object. */
 void write_op(struct object *object, const char *word, const char *rest, int answer);
+/* `LOOP O NOW WORD %ID KIND = ok` */
+void write_made(struct object *object, const char *word, const char *kind);
 void write_start(struct object *timer, uint64_t timeout, uint64_t repeat, int answer);
 const char *answer_text(int answer);
 
@@ -398,7 +403,7 @@ static inline void force_unlocked(uv_mutex_t *mutex) { (void)mutex; }
 #endif
 /* The lock is given away for a while, however often this thread has it. */
 int unlock_all(void);
-void lock_again(int held);
+void lock_again(int depth);
 struct object *object_by_id(int id);
 /* Do lines say when a worker takes this request, and when it is through? */
 bool is_seen_work(const struct object *request);
