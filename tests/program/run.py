@@ -32,7 +32,7 @@ launcher has built, and with --program that file, as if it had been built: then 
     a build takes (asked.py)
   - what tests by hand edit stands there yet: the program over the plain loop, the wrong loops, the wrong edits
   - each function of the libraries is called by a program, or has a reason (reached.py)
-  - no line of code is wider than 150 columns, and no file of it longer than 800 lines (widths.py)
+  - no line of code is wider than 150 columns, and no file of it longer than 800 lines, of C in tools/ than 400 (widths.py)
   - the tools of tools/ that talk with the program (tests/tools)
   - the program and the tools as they are installed, and their packages (tests/package), where the program is a proved one
   - each allocation is refused in turn (tests/refused-allocations)

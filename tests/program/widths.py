@@ -1,4 +1,5 @@
-"""No line of code is wider than 150 columns, except for imports of proofs, and no file of code is longer than 800 lines.
+"""No line of code is wider than 150 columns, except for imports of proofs, and no file of code is longer than 800 lines, of C in
+tools/ than 400.
 
 How wide Python is has its own test (tests/tools/formed.py).
 """
@@ -10,10 +11,13 @@ from tests.helper import Check
 
 MOST_COLUMNS = 150
 MOST_LINES = 800
+# of C in tools/: a file has one subject
+MOST_OF_C = 400
 # what may be wider: one import is one line
 IMPORTS = ("use ", "pub use ", "ghost use ")
 CODE = ("crates/*/src/**/*.rt", "crates/*/specs/**/*.antt", "crates/*/proofs/**/*.antt", "tools/**/*.[ch]", "tests/**/*.c")
 PYTHON = ("tools/**/*.py", "tests/**/*.py")
+C = ("tools/**/*.[ch]",)
 
 
 def lines_of(path: str) -> List[str]:
@@ -38,5 +42,6 @@ def try_widths(check: Check, folder: str) -> None:
     code = paths_of(folder, CODE)
     wrong = [line for path in code for line in wide(path)]
     check("the widths of code", len(code) > 500 and not wrong, "\n".join(wrong))
-    long = [path for path in code + paths_of(folder, PYTHON) if len(lines_of(path)) > MOST_LINES]
-    check("the lengths of files", not long, "more than %d lines: %s" % (MOST_LINES, ", ".join(long)))
+    for most, paths in ((MOST_LINES, code + paths_of(folder, PYTHON)), (MOST_OF_C, paths_of(folder, C))):
+        long = [path for path in paths if len(lines_of(path)) > most]
+        check("the lengths of files", not long, "more than %d lines: %s" % (most, ", ".join(long)))

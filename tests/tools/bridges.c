@@ -1,6 +1,9 @@
-/* The bridges of the recorder's hooks (tools/uvt/record/recorder/hooks.c): small functions, each with another beginning, get a jump to `instead`,
+/* The bridges of the recorder's hooks (tools/uvt/record/recorder/jumps.c): small functions, each with another beginning, get a jump to `instead`,
  * and their bridges have to do what they did. Others have to be refused. Prints what is wrong, and at its end `ok` or `wrong`. */
-#include "hooks.c"
+#include "symbols.c"
+#include "jumps.c"
+
+#include <stdio.h>
 
 void note_unseen(const char *function, const char *why) {
     (void)function, (void)why;
@@ -14,7 +17,7 @@ bool knows_libuv(void) {
     return false;
 }
 
-bool off, filtered;
+bool off, filtered, attaches;
 void lock(void) {}
 void unlock(void) {}
 

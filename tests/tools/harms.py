@@ -64,7 +64,7 @@ class Room:
     def __init__(self, folder: Path) -> None:
         self.folder = folder
         for it in HERE.glob("*.c"):
-            subprocess.run(["cc", "-O1", "-g", "-w", str(it), "-o", str(folder / it.stem), "-luv", "-lpthread"], check=True)
+            subprocess.run(["cc", "-O1", "-g", "-w", "-rdynamic", str(it), "-o", str(folder / it.stem), "-luv", "-lpthread"], check=True)
 
     def plain(self, *words: str) -> subprocess.CompletedProcess[str]:
         return ran([str(self.folder / words[0]), *words[1:]], self.folder)
@@ -95,6 +95,15 @@ def try_kinds(check: Check, room: Room) -> None:
             recorded = room.run("kinds", kind, before=(), **more)
             alike = (plain.returncode, plain.stdout) == (recorded.returncode, recorded.stdout)
             check(f"harms: {kind}{', in a ring' if more else ''}: its status and output", alike and plain.returncode != LATE, (plain, recorded))
+
+
+def try_names(check: Check, room: Room) -> None:
+    """The program's functions are called by itself alone, and the recorder's by the recorder, whatever their names."""
+    for more in BOTH:
+        done = room.run("names", before=(), **more)
+        check("harms: functions with the recorder's names", (done.returncode, done.stdout) == (0, "3 calls\n"), done)
+    status, said = tool("record", ["./names"], room.folder)
+    check("harms: a program with the recorder's names is recorded", status == 0 and ": same\n" in said, said)
 
 
 def instructions(room: Room, loops: int) -> int:
@@ -290,7 +299,7 @@ def try_harms(tries: Tries) -> None:
         room = Room(Path(name))
         for part in (try_loops, try_filters):
             part(tries, room)
-        for one in (try_handler, try_kinds, try_signals, try_killed, try_hunt_killed):
+        for one in (try_handler, try_kinds, try_names, try_signals, try_killed, try_hunt_killed):
             one(tries.check, room)
         if shutil.which("gdb"):
             try_folder(tries.check, room)

@@ -1,5 +1,5 @@
 /* A filter of system calls (seccomp): the program's first word of one. (Whoever loads one without being root says first that no new privileges are
- * wanted.) What is done ahead of it stands in log.c. */
+ * wanted.) What is done ahead of it stands in window.c. */
 #define _GNU_SOURCE
 #include "recorder.h"
 

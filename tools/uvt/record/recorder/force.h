@@ -1,5 +1,6 @@
-/* What the files of a forced order have in common: force.c goes along the session, force_gates.c holds the program's threads, and force_random.c
- * chooses where there is no session. The names are the library's own: a program that has the same ones keeps them. */
+/* What the files of a forced order have in common: force.c goes along the session, force_shown.c has what the program does beside it, force_gates.c
+ * holds the program's threads (force_pool.c, force_sends.c), and force_random.c chooses where there is no session. The names are the library's
+ * own: a program that has the same ones keeps them. */
 #ifndef FORCE_H
 #define FORCE_H
 
@@ -51,9 +52,18 @@ extern int depth; /* callbacks of the program under way */
 extern bool early, behind_poll;
 
 const char *name_of(int at);
+int name_by_id(int id);
+/* Is it a handle of node's own, as these are named? Of its platform's V8 asks when it likes: as its threads are through, or garbage is collected. */
+#define PLATFORM "perisolateplatformdata"
+bool is_nodes(int name, const char *handle);
+/* The handle of this name, where it is that of node's platform. */
+struct object *platform_of(int name);
 const struct item *at_cursor(void);
 /* (with the gate's mutex) The send of this name that comes in front of all that the program shows next; NULL where there is none. */
 const struct item *next_send(int name);
+bool is_outside(const struct item *item);
+/* The item at the cursor has come. */
+void step_done(void);
 /* It is the session's last step: that is said before it is done. */
 bool says_last(const struct item *item);
 /* Does what comes from outside, up to the next thing that is none of that. With `through`: up to the next thing that the program shows. */
@@ -64,7 +74,7 @@ struct shown read_shown(const char *words);
 /* A line that says that a worker took it. (The worker itself writes none: its work may begin later.) */
 void write_taken(int id);
 
-/* ---- what is said, and the time (force_gates.c) */
+/* ---- what is said, and the time (force_said.c) */
 
 /* How far it has come, for who looks from outside. */
 struct page {
@@ -76,6 +86,7 @@ extern struct page *page;
 extern int said; /* the file */
 extern bool stops;
 extern uint64_t began, moved; /* the clock where it began, in ns; and how far it has moved since, in ms */
+extern uint64_t freed_at; /* and since when nothing is forced any more */
 
 void say(const char *format, ...);
 void depart(const char *format, ...);
@@ -168,7 +179,7 @@ void end_waits(void);
 void *give_interpreter(void);
 void take_interpreter(void *given);
 
-/* ---- workers, and threads that send (force_gates.c) */
+/* ---- workers (force_pool.c), and threads that send (force_sends.c) */
 
 /* AT_LOCK: its work has a lock, and is about to take another one. */
 enum place { STARTING, AT_TAKE, TAKING, TAKEN, RUNNING, AT_LOCK, AT_FINISH, FINISHING, ASLEEP };
@@ -188,6 +199,7 @@ struct sender {
 };
 
 extern struct worker pool[];
+extern __thread struct worker *me; /* this thread, NULL where it is none */
 extern int pool_count;
 extern const struct worker *waits_for; /* the leader, for this one's finish */
 extern struct sender *senders;

@@ -8,6 +8,7 @@
 #include "recorder.h"
 
 #include <dlfcn.h>
+#include <signal.h>
 
 typedef struct env *napi_env;
 typedef struct value *napi_value;
@@ -27,6 +28,8 @@ NODE napi_typeof(napi_env, napi_value, int *);
 NODE napi_open_handle_scope(napi_env, napi_scope *);
 NODE napi_close_handle_scope(napi_env, napi_scope);
 NODE napi_add_env_cleanup_hook(napi_env, void (*)(void *), void *);
+
+#pragma GCC visibility push(hidden)
 
 /* A name of V8's that this node lacks: the log has each once (node.c). */
 void lacks(const char *symbol);
@@ -68,8 +71,16 @@ void places_now(napi_env env, char *found);
 void begin_looks(napi_env env);
 /* The last of them are written, and no more are taken. */
 void end_looks(void);
-/* SIGINT, SIGTERM and SIGHUP end the program when its looks are written, where it has nobody of its own for them. A second one ends it at once. */
+/* Is this thread looked at? */
+bool is_looked_at(void);
+/* Whoever waits until it is time for the next ones waits no longer. */
+void look_now(void);
+/* (looks_ends.c) SIGINT, SIGTERM and SIGHUP end the program when its looks are written, where it has nobody of its own for them. A second one ends
+ * it at once. */
 void look_before_signals(struct loop *loop);
+/* The signal that ends it, 0: none has come; and it does. */
+extern volatile sig_atomic_t ended_by;
+void end_by_signal(void);
 
 /* ---- garbage (collector.c): when V8 collects it */
 
@@ -79,5 +90,7 @@ void look_up_collections(void);
 void begin_collections(void *isolate);
 /* Those that were since the last ones that were written; with the lock held. */
 void write_collections(struct loop *loop);
+
+#pragma GCC visibility pop
 
 #endif

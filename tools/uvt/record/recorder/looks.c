@@ -3,7 +3,6 @@
 #define _GNU_SOURCE
 #include "javascript.h"
 
-#include <errno.h>
 #include <limits.h>
 #include <semaphore.h>
 #include <signal.h>
@@ -11,7 +10,6 @@
 #include <stdlib.h>
 #include <string.h>
 #include <time.h>
-#include <unistd.h>
 
 enum { TEXT = 1000, EACH = 1000, BY_LINES = 0, WITH_NAMES = 1, LAZILY = 0, STACKS = 1 << 16, PLACES = 1 << 12, FULL = 3, DEEP = 1000 };
 enum { TOO_LATE = 2000 }; /* in microseconds */
@@ -212,13 +210,6 @@ static void write_looks(struct looks *looks, bool go_on) {
 /* ---- when they are written */
 
 static sem_t wake;
-static volatile sig_atomic_t ended_by;
-static struct sigaction before[SIGTERM + 1]; /* what node had for it, which sees to the terminal and ends it */
-
-static void end_by_signal(void) {
-    sigaction(ended_by, &before[ended_by], NULL);
-    raise(ended_by);
-}
 
 /* As JavaScript runs: V8 calls this. */
 static void on_interrupt(void *isolate, void *given) {
@@ -266,6 +257,14 @@ int wait_before_looks(struct loop *loop) {
     if (!looks || !looks->profiler || looks->begun == loop->begun) return -1;
     uint64_t since = looks_clock() - looks->written;
     return since >= EACH ? 0 : (int)(EACH - since);
+}
+
+bool is_looked_at(void) {
+    return looks_here != NULL;
+}
+
+void look_now(void) {
+    sem_post(&wake);
 }
 
 void write_looks_here(void) {
@@ -353,57 +352,4 @@ void begin_looks(napi_env env) {
     all = looks;
     pthread_mutex_unlock(&all_of_them);
     begin_watch();
-}
-
-/* ---- a signal that ends the program: the looks are written first */
-
-static uv_async_t ending;
-static int (*wake_up)(uv_async_t *);
-
-/* (the handle isn't seen by the recorder: what is called here stands for none of the program's) */
-static void on_ending(uv_async_t *none) {
-    (void)none;
-    write_looks_here();
-    end_by_signal();
-}
-
-static void end_now(int none) {
-    (void)none;
-    end_by_signal();
-}
-
-/* (a native function that takes long lets nobody look: it has two seconds) */
-static void on_signal(int signal) {
-    int kept = errno;
-    if (ended_by) {
-        sigaction(signal, &before[signal], NULL);
-        raise(signal);
-        return;
-    }
-    ended_by = signal;
-    sigaction(SIGALRM, &(struct sigaction){.sa_handler = end_now}, NULL);
-    alarm(2);
-    sem_post(&wake);
-    inside++;
-    wake_up(&ending);
-    inside--;
-    errno = kept;
-}
-
-void look_before_signals(struct loop *loop) {
-    static bool is;
-    int (*make)(uv_loop_t *, uv_async_t *, uv_async_cb) = (int (*)(uv_loop_t *, uv_async_t *, uv_async_cb))dlsym(RTLD_DEFAULT, "uv_async_init");
-    void (*unref)(uv_handle_t *) = (void (*)(uv_handle_t *))dlsym(RTLD_DEFAULT, "uv_unref");
-    wake_up = (int (*)(uv_async_t *))dlsym(RTLD_DEFAULT, "uv_async_send");
-    if (!loop || is || !looks_here || !make || !unref || !wake_up) return;
-    is = true;
-    inside++;
-    int made = make(loop->uv, &ending, on_ending);
-    if (made == 0) unref((uv_handle_t *)&ending);
-    inside--;
-    static const int SIGNALS[] = {SIGINT, SIGTERM, SIGHUP};
-    for (int at = 0; at < 3 && made == 0; at++) {
-        struct sigaction *old = &before[SIGNALS[at]], new = {.sa_handler = on_signal, .sa_flags = SA_RESTART};
-        if (sigaction(SIGNALS[at], NULL, old) == 0 && old->sa_handler != SIG_IGN) sigaction(SIGNALS[at], &new, NULL);
-    }
 }
