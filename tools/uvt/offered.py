@@ -9,10 +9,10 @@ from collections import Counter
 from dataclasses import dataclass, field
 
 from uvt.conversation import Conversation, Fault, Script
+from uvt.session_lines import LISTS, SECTIONS
 
-# The words of lines that begin a callback, and those that say that the loop is in none.
-CALLS = {"call": "on", "after": "after", "closed": "closed"}
-NOT_IN_A_CALL = {"pending", "idle", "prepare", "poll", "done", "async", "check", "closing", "timers", "run", "end"}
+# The words of lines that say that the loop is in no callback.
+NOT_IN_A_CALL = {*SECTIONS, "poll", "run", "end"}
 FROM_OUTSIDE = ("io", "send", "cancel")
 STEPS = ("loop", "take", "finish", "tick", *FROM_OUTSIDE)
 
@@ -119,8 +119,8 @@ def spent(script: Script, steps: list[str]) -> tuple[list[list[str]], dict[int, 
         for number, (step, lines) in enumerate(zip(steps, said)):
             word, _, argument = step.partition(" ")
             first = lines[0].split(" ")[0] if lines else ""
-            if first in CALLS and word in ("loop", "io"):
-                within = CALLS[first], lines[0].split(" ")[1]
+            if first in LISTS and word in ("loop", "io"):
+                within = LISTS[first], lines[0].split(" ")[1]
                 calls[within] += 1
             elif first in NOT_IN_A_CALL and word == "loop":
                 within = None

@@ -6,10 +6,9 @@ import re
 from pathlib import Path
 
 from uvt.conversation import Conversation, Script
+from uvt.session_lines import LISTS, SECTIONS
 
-SECTIONS = {"pending", "idle", "prepare", "done", "async", "check", "closing", "timers"}
 ASKS = {"now", "alive", "timeout", "due", "hasref", "active", "closing"}
-CALLS = {"call": "on", "after": "after", "closed": "closed"}
 
 
 def single(commands: list[str]) -> list[str]:
@@ -43,8 +42,8 @@ def row_of(command: str, line: str, step: int, names: dict[str, int], unseen: st
         name = next((names[it] for it in words[2:] if it in names), -1)
         number = int(words[2]) if words[1] in ("tick", "take", "finish") else 0
         return row(words[1], step, line, name, number)
-    if words[0] in CALLS and words[1] in names and " = " not in line and len(words) > 2:
-        return row("io" if command.startswith("io ") else CALLS[words[0]], step, line, names[words[1]])
+    if words[0] in LISTS and words[1] in names and " = " not in line and len(words) > 2:
+        return row("io" if command.startswith("io ") else LISTS[words[0]], step, line, names[words[1]])
     if words[0] in ("run", "end"):
         return row(words[0], step, line)
     if words[0] == "poll":
@@ -106,7 +105,7 @@ def workers_of(script: Script) -> int:
 
 def called(lines: list[str]) -> list[tuple[str, ...]]:
     """Whose callbacks are called, in order. (`wake` is no handle of the program.)"""
-    calls = [tuple(it.split(" ")[:2]) for it in lines if it.split(" ")[0] in CALLS and " = " not in it]
+    calls = [tuple(it.split(" ")[:2]) for it in lines if it.split(" ")[0] in LISTS and " = " not in it]
     return [it for it in calls if it[1] != "wake"]
 
 

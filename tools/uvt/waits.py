@@ -134,7 +134,7 @@ class Follower:
                 id, kind, repeat = words[-1], words[2], "0"
             elif word != "call":
                 repeat = repeat_of(words, repeat)
-            is_last = at + 1 == len(found)
+            is_last = at + 1 == len(found.steps)
             behind = last if is_last else found.steps[at + 1]
             if kind == "timer" and (repeat != "0" if word == "call" else word in ("start", "again") and words[-1] == "ok"):
                 # (its section may set it aside to be called, in a step without a line)

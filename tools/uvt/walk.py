@@ -13,14 +13,13 @@ from typing import Any, Callable, Iterator
 from uvt.conversation import Conversation, Fault, Script
 from uvt.places import Place, next_line, read_place
 from uvt.pool import Pool
-from uvt.session_lines import SECTIONS, Calls, Lines, OfName, looked_at, parts
+from uvt.session_lines import LISTS, SECTIONS, Lines, OfName, StepLines, looked_at, parts
 from uvt.state import State
 from uvt.took import POLL, WORDS, Took
 from uvt.unblocked import Unblocked
 
 # The commands that do a step beside `loop`. A step `io` is from outside, and is the callback itself; all that its body does is the loop's.
 OUTSIDE = ("take", "finish", "cancel", "send", "tick", "io")
-LISTS = {"call": "on", "after": "after", "closed": "closed"}
 ANY = re.compile(rb"(\d+) (.*)\n")
 # So many lines of states are kept, and so many are asked for without waiting.
 MANY_LINES = 1_000_000
@@ -40,7 +39,7 @@ class LeftByIo:
     woken: bool
 
 
-class Walk:
+class Walk(StepLines):
     """The steps of a session, from 1, with their lines. A length is how many steps stand."""
 
     def __init__(self, script: Script, steps: list[str], program: list[str] | None = None, tell: Callable[[int, int], None] | None = None) -> None:
@@ -69,12 +68,7 @@ class Walk:
         # the lines of the steps, each behind its step; a step has none where the program prints none, and there is no step 0
         self.walked = self.talk.walk()
         self.known = Lines()
-        # of all lines but those of sections: the steps, and their lines
-        self.told_at, self.told = looked_at(self.walked, self.known)
-        self.word_of = {it: it.split(" ", 1)[0] for it in self.known.values()}
-        self.words = {it: array.array("i") for it in self.word_of.values()}
-        for step, word in zip(self.told_at, map(self.word_of.__getitem__, self.told)):
-            self.words[word].append(step)
+        super().__init__(*looked_at(self.walked, self.known))
         self.after = self.ask_after()
         self.go_by_clock()
         self.look_through()
@@ -88,11 +82,6 @@ class Walk:
             elif self.script.is_recorded():
                 raise Fault(f"step {before + 1} of the recording is `{step}`, and the program answers `{answer[-1]}`")
             before = self.talk.length
-
-    def line(self, step: int) -> str:
-        """The line of a step; `` where it has none, and of a section."""
-        at = bisect.bisect_left(self.told_at, step)
-        return self.told[at] if at < len(self.told_at) and self.told_at[at] == step else ""
 
     def lines_between(self, first: int, last: int) -> list[str]:
         """The lines from one step to another, but those of sections."""
@@ -179,19 +168,16 @@ class Walk:
     def look_through(self) -> None:
         """Which callback each step is in, where each tick is, and at which steps a line begins with a word."""
         # the steps that begin a callback, and those with which the loop goes on behind it
-        self.called, self.called_until = array.array("i"), array.array("i")
-        # by that step: the last op, where there is one; and which call of its list and name it is
+        self.called, self.called_until = self.calls.steps, array.array("i")
+        # by that step: the last op, where there is one
         self.last_op: dict[int, int] = {}
-        self.calls = Calls(self.called)
         # the callbacks of I/O that left a poll, each with the step that began that; and the step that left each poll
         self.leaving: dict[int, int] = {}
         self.left_by_step: dict[int, int] = {}
         self.tooks: list[Took] = []
         self.took_at: dict[int, Took] = {}
-        counts: dict[tuple[str, str], int] = {}
-        kinds = {line: (kind, line.split(" ", 2)[1]) for line, word in self.word_of.items() if (kind := LISTS.get(word))}
         first, poll, runs, before = 0, 0, False, 0
-        for step, line in zip(self.told_at, self.told):
+        for step, line, word in zip(self.told_at, self.told, map(self.word_of.__getitem__, self.told)):
             if step > before + 1 and (first or poll):
                 # (between two such lines the loop goes on, to a section or to a step without a line)
                 if poll:
@@ -200,16 +186,13 @@ class Walk:
                     self.called_until.append(before + 1)
                 first = poll = 0
             before = step
-            if line in kinds:
+            if word in LISTS:
                 if poll:
                     self.leaving[step], self.left_by_step[poll] = poll, step
                 elif first:
                     self.called_until.append(step)
-                first, poll, call = step, 0, kinds[line]
-                self.called.append(step)
-                counts[call] = number = counts.get(call, 0) + 1
-                self.calls.add(call, number)
-            elif (word := self.word_of[line]) == "out":
+                first, poll = step, 0
+            elif word == "out":
                 if self.clocks[step] > self.clocks[step - 1]:
                     self.note_tick(step, first, poll, runs)
             elif " = " in line:

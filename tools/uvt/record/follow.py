@@ -21,10 +21,11 @@ from uvt.record.leading import POLLED, Outcome, Stopped
 from uvt.record.events import NO_CLOCK
 from uvt.record.outside import Outside
 from uvt.record.where import NOWHERE, PENDING
+from uvt.session_lines import LISTS
 
 MANY_WORKERS = 64
 PATIENCE = 5000
-CALLS = {"on": "call", "after": "after", "closed": "closed"}
+CALLS = {callback: word for word, callback in LISTS.items()}
 # Where callbacks of I/O are of the same poll still.
 BEHIND = (POLLED, "done", "async")
 

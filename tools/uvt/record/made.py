@@ -8,21 +8,23 @@ from dataclasses import dataclass
 
 from uvt.conversation import built_program
 from uvt.progress import Teller
-from uvt.record.follow import CALLS, Follower, MANY_WORKERS, NeedsWake
+from uvt.record.follow import Follower, MANY_WORKERS, NeedsWake
 from uvt.record.leading import Outcome
 from uvt.record.items import Call, Program
 from uvt.record.log import Log
 from uvt.record.parts import Part, chosen
 from uvt.record.polls import Polls, compare
 from uvt.record.script import program_of
+from uvt.session_lines import StepLines, told_of
 
 
 @dataclass
 class Made:
-    """A recording, what `uvt replay` says of it, and whether its callbacks are those of the log."""
+    """A recording, the lines of its steps, what `uvt replay` says of it, and whether its callbacks are those of the log."""
 
     outcome: Outcome
     program: Program
+    lines: StepLines
     verdict: str
     agrees: bool
     polls: Polls
@@ -36,12 +38,10 @@ def replayed(lines: list[str]) -> str:
     return ran.stdout.strip() or ran.stderr.strip()
 
 
-def agrees(program: Program, outcome: Outcome) -> bool:
+def agrees(program: Program, callbacks: int, lines: StepLines) -> bool:
     """Are the recording's callbacks those of the log, by their names, as far as they go?"""
-    calls = outcome.recording[outcome.recording.index("calls") + 1 : -1]
-    names = [it for it in calls if not it.startswith("call wake ")]
-    wanted = list(itertools.islice((it for it in program.items if isinstance(it, Call)), outcome.callbacks))
-    return len(names) == len(wanted) and all(f"{line} ".startswith(f"{CALLS[it.callback]} {it.name} ") for line, it in zip(names, wanted))
+    wanted = itertools.islice((it for it in program.items if isinstance(it, Call)), callbacks)
+    return [it for it in lines.calls.kinds if it[1] != "wake"] == [(it.callback, it.name) for it in wanted]
 
 
 def followed(program: Program, workers: int) -> Outcome:
@@ -76,5 +76,6 @@ def make(log: Log, loop: int, part: Part = Part()) -> Made | None:
     if not program.callbacks():
         return None
     outcome = followed(program, log.workers)
-    polls = compare(program, outcome.lines, outcome.callbacks, not outcome.why)
-    return Made(outcome, program, replayed(outcome.recording), agrees(program, outcome), polls)
+    lines = StepLines(*told_of(outcome.lines))
+    polls = compare(program, lines, outcome.callbacks, not outcome.why)
+    return Made(outcome, program, lines, replayed(outcome.recording), agrees(program, outcome.callbacks, lines), polls)

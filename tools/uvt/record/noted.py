@@ -59,7 +59,7 @@ def notes_of(made: Made, note: str, where: str = "", kept: str = "") -> Notes:
     steps = made.outcome.recording[made.outcome.recording.index("begin") + 1 : made.outcome.recording.index("calls")]
     made.program.javascript.waits = waits_of(made.program) if made.program.javascript else []
     outside = {at for at, it in enumerate(steps, 1) if it.startswith(("send ", "take ", "finish "))}
-    stand = Steps(made.program, made.outcome.lines)
+    stand = Steps(made.program, made.lines)
     places, number = stand.places()
     return Notes(
         part_of(made, note),

@@ -13,12 +13,8 @@ from collections.abc import Iterator
 from dataclasses import dataclass
 from typing import NamedTuple
 
-from uvt.codes import SECTIONS as SECTION_WORDS
 from uvt.record.items import Call, Item, Poll, Program
-
-# (of ten lines eight are of these)
-SECTIONS = frozenset(SECTION_WORDS)
-CALLBACKS = ("call ", "after ", "closed ")
+from uvt.session_lines import StepLines
 
 
 class Wait(NamedTuple):
@@ -81,17 +77,12 @@ def timeout_of(text: str) -> int:
     return -1 if text == "infinite" else int(text)
 
 
-def waits_of(lines: list[str]) -> tuple[Waits, int]:
+def waits_of(lines: StepLines) -> tuple[Waits, int]:
     """The polls of the steps, and how many callbacks these have. (The handle `wake` isn't the program's.)"""
-    found, callbacks = Waits(), 0
-    for step, line in enumerate(lines, 1):
-        if line in SECTIONS:
-            continue
-        if line.startswith(CALLBACKS):
-            callbacks += not line.startswith("call wake ")
-        elif line.startswith("poll "):
-            found.add(timeout_of(line[5:]), step, callbacks)
-    return found, callbacks
+    found, calls = Waits(), [step for step, (_, name, _) in lines.calls.rows() if name != "wake"]
+    for step in lines.words.get("poll", ()):
+        found.add(timeout_of(lines.line(step)[5:]), step, bisect.bisect_left(calls, step))
+    return found, len(calls)
 
 
 def waits_of_log(items: list[Item]) -> Waits:
@@ -105,7 +96,7 @@ def waits_of_log(items: list[Item]) -> Waits:
     return found
 
 
-def compare(program: Program, lines: list[str], callbacks: int, whole: bool) -> Polls:
+def compare(program: Program, lines: StepLines, callbacks: int, whole: bool) -> Polls:
     """The polls of a recording whose steps have these lines, up to its last callback where it isn't whole."""
     (here, count), there = waits_of(lines), waits_of_log(program.items)
     upto = count + 1 if whole else callbacks

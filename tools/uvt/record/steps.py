@@ -3,44 +3,29 @@
 from __future__ import annotations
 
 from uvt.notes import Request
-from uvt.record.items import Call, Key, Op, Program
-
-LINES = {"on": "call", "after": "after", "closed": "closed"}
-
-
-def begins(item: Call | Op | None) -> str:
-    """How the line of such an item's step begins."""
-    return f"{item.text} = " if isinstance(item, Op) else f"{LINES[item.callback]} {item.name} " if item else ""
+from uvt.record.items import Key, Op, Program
+from uvt.session_lines import StepLines
 
 
 class Steps:
     """Of a program's ops and callbacks, by the lines of a recording's steps: they stand there in the same order."""
 
-    def __init__(self, program: Program, lines: list[str]) -> None:
+    def __init__(self, program: Program, lines: StepLines) -> None:
         self.program = program
         # of each op's step the place that asked for it; and the step of each callback of which requests and calls that changed nothing are
         self.asked_at: dict[int, str] = {}
         # of a request's step the clock as it was queued, where the loop's time was an earlier one
         self.queued: dict[int, int] = {}
-        self.calls: dict[Key, int] = {}
-        calls = {it.within for it in program.nothings} | {key for it in program.requests for key in (it.within, it.by)}
+        wanted = {it.within for it in program.nothings} | {key for it in program.requests for key in (it.within, it.by)}
+        self.calls: dict[Key, int] = {key: step for step, key in lines.calls.rows() if key in wanted} if wanted else {}
         # up to this step it is what there was as it begins
         self.before = 0
-        items = (it for it in program.items if isinstance(it, (Call, Op)))
-        item = next(items, None)
-        wanted = begins(item)
-        for step, line in enumerate(lines, 1):
-            if not line.startswith(wanted):
-                continue
-            if isinstance(item, Call):
-                if calls and (key := (item.callback, item.name, item.number)) in calls:
-                    self.calls[key] = step
-            elif item:
+        ops = (it for it in program.items if isinstance(it, Op))
+        item = next(ops, None)
+        for step, line in zip(lines.told_at, lines.told):
+            if item and line.startswith(f"{item.text} = "):
                 self.see_op(item, step)
-            item = next(items, None)
-            if item is None:
-                break
-            wanted = begins(item)
+                item = next(ops, None)
 
     def see_op(self, item: Op, step: int) -> None:
         if item.line == self.program.again_line:
