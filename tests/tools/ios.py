@@ -7,7 +7,7 @@ from pathlib import Path
 
 ROOT = Path(__file__).resolve().parent.parent.parent
 from tests.helper import Check
-from uvt.notes import Notes, sentence
+from uvt.notes import THINGS, Notes, sentence
 from uvt.notes_read import read_notes
 from uvt.record.differences import IO
 from uvt.record.log import read_log
@@ -263,7 +263,10 @@ def try_words(check: Check, folder: str) -> None:
         (read.came("a", 49), read.came("b", 7), read.came("b", 3), read.came("c", 1)) == ("49 bytes were read", "the end of the stream", "", ""),
         read,
     )
-    check("what it is", [(read.is_io(it), read.thing(it)) for it in "abcd"] == [(True, "a tcp"), (True, "a watched file"), (False, ""), (False, "")])
+    check(
+        "what it is",
+        [(read.is_io(it), THINGS.get(read.kind(it), "")) for it in "abcd"] == [(True, "a tcp"), (True, "a watched file"), (False, ""), (False, "")],
+    )
 
 
 def try_io(check: Check, folder: str) -> None:

@@ -10,6 +10,7 @@ types that definitions are of.
 
 from __future__ import annotations
 
+import itertools
 import re
 from collections.abc import Iterable
 from dataclasses import dataclass, field
@@ -316,13 +317,8 @@ def lines_of(definitions: Iterable[Definition]) -> int:
 
 def spans(numbers: list[int]) -> str:
     """Numbers as few words: 1-3, 5."""
-    found: list[list[int]] = []
-    for number in numbers:
-        if found and found[-1][1] == number - 1:
-            found[-1][1] = number
-        else:
-            found.append([number, number])
-    return ", ".join(str(a) if a == b else f"{a}-{b}" for a, b in found)
+    runs = [[it for _, it in run] for _, run in itertools.groupby(enumerate(numbers), lambda it: it[1] - it[0])]
+    return ", ".join(f"{it[0]}-{it[-1]}" if len(it) > 1 else f"{it[0]}" for it in runs)
 
 
 HEADING = """# What to believe, in order

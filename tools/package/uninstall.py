@@ -115,11 +115,9 @@ def uninstall(prefix: Path) -> list[str]:
         (prefix / MANIFEST).unlink()
     within = {it.as_posix() for name in made.files for it in Path(name).parents if it.as_posix().startswith(OWN)}
     for it in sorted({*made.folders, *within}, key=lambda name: (name == ".", -name.count("/"))):
-        try:
+        # (something else may be in it, or it is gone)
+        with contextlib.suppress(OSError):
             (prefix / it).rmdir()
-        except OSError:
-            # (something else is in it, or it is gone)
-            pass
     return changed
 
 

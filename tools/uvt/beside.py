@@ -16,7 +16,8 @@ from dataclasses import dataclass
 from uvt.waits import History, Wait, follow
 from uvt.took import Took
 from uvt.walk import Walk
-from uvt.causes import few, times
+from uvt.causes import few
+from uvt.notes import times
 from uvt.why import Why
 from uvt.why_asked import CALLS
 

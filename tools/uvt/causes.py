@@ -25,10 +25,6 @@ def steps_of(steps: Sequence[int]) -> str:
     return f"step {steps[0]}" if len(steps) == 1 else f"steps {few(steps)}"
 
 
-def times(count: int, what: str) -> str:
-    return f"{count} {what}" if count == 1 else f"{count} {what}s"
-
-
 def named(took: Took) -> str:
     """A callback, with the program's function where that is known; in node what it does."""
     if took.node:
@@ -38,10 +34,9 @@ def named(took: Took) -> str:
 
 def told(took: Took) -> str:
     """Where the clock went on, in a sentence: which, how long, from which step to which."""
-    steps = f"from step {took.first} to {took.last}" if took.first < took.last else f"at step {took.first}"
     if took.is_callback():
-        return f"{named(took)} took {took.took()} ms{took.on_processor()}, {steps}{took.did()}"
-    return f"{took.took()} ms went by in {took.what}, {steps}"
+        return f"{named(took)} took {took.took()} ms{took.on_processor()}, {took.steps()}{took.did()}"
+    return f"{took.took()} ms went by in {took.what}, {took.steps()}"
 
 
 def in_javascript(walk: Walk, took: Took, begin: int, end: int) -> str:
@@ -95,5 +90,4 @@ def sentence(walk: Walk, took: Took, begin: int, end: int) -> str:
     told_of = in_javascript(walk, took, begin, end)
     if not took.node or not told_of:
         return told(took) + told_of
-    steps = f"from step {took.first} to {took.last}" if took.first < took.last else f"at step {took.first}"
-    return f"{told_of.removeprefix(': ')}, in {took.node.words}, {steps}"
+    return f"{told_of.removeprefix(': ')}, in {took.node.words}, {took.steps()}"

@@ -5,6 +5,7 @@ What is here speaks the program's own words (docs/FORMAT.md) and has no loop of 
 
 from __future__ import annotations
 
+import contextlib
 import functools
 import io
 import itertools
@@ -66,12 +67,19 @@ for _stream in (sys.stdout, sys.stderr):
 @functools.lru_cache(maxsize=None)
 def built_program() -> str:
     """The program that a call of the launcher would start, which says so where it is the one before its proofs; or the one that UVT names."""
-    named = os.environ.get("UVT")
-    if named:
-        return named
-    asked = subprocess.run([str(ROOT / "uvt"), "path"], stdin=subprocess.DEVNULL, stdout=subprocess.PIPE, text=True)
+    return os.environ.get("UVT") or program_at(["path"], "there is no program to talk with")
+
+
+def search_program() -> str:
+    """The same of the search, which UVT_FIND names."""
+    return os.environ.get("UVT_FIND") or program_at(["path", "find"], "there is no program that searches")
+
+
+def program_at(words: list[str], absent: str) -> str:
+    """What the launcher says to these words."""
+    asked = subprocess.run([str(ROOT / "uvt"), *words], stdin=subprocess.DEVNULL, stdout=subprocess.PIPE, text=True)
     if asked.returncode:
-        raise Fault("there is no program to talk with")
+        raise Fault(absent)
     return asked.stdout.rstrip("\n")
 
 
@@ -163,21 +171,17 @@ class Conversation:
             yield last
             last = line
 
-    def begin(self, command: str) -> Iterator[str]:
-        """Asks a command, and gives the lines of its answer as they come. All of them have to be read."""
-        if "\n" in command:
-            raise Fault("a command is one line")
-        self.send(command + "\n" + END_COMMANDS.decode())
-        return self.answer()
-
     def ask(self, command: str) -> list[str]:
         """Asks a command, and answers the lines that it printed. `length` is how many steps stand then.
 
         An interrupt waits until the answer is read, so that no half of it is taken for the next one.
         """
+        if "\n" in command:
+            raise Fault("a command is one line")
         before = signal.pthread_sigmask(signal.SIG_BLOCK, [signal.SIGINT])
         try:
-            return list(self.begin(command))
+            self.send(command + "\n" + END_COMMANDS.decode())
+            return list(self.answer())
         finally:
             signal.pthread_sigmask(signal.SIG_SETMASK, before)
 
@@ -198,21 +202,15 @@ class Conversation:
     def answers(self, count: int) -> Iterator[list[str]]:
         """The lines of so many answers, each up to the line of its `back 0`."""
         lines: list[str] = []
-        rest = b""
-        while count:
-            part = self.read_some()
-            if not part:
-                self.ended()
-            rows = (rest + part).split(b"\n")
-            rest = rows.pop()
-            for row in rows:
-                if row.startswith(b"at "):
-                    self.length = int(row[3:])
-                    count -= 1
-                    yield lines
-                    lines = []
-                else:
-                    lines.append(row.decode("ascii", "replace"))
+        for row in self.rows() if count else ():
+            if not row.startswith("at "):
+                lines.append(row)
+                continue
+            self.length = int(row[3:])
+            yield lines
+            lines, count = [], count - 1
+            if not count:
+                return
 
     def do_all(self, commands: list[str], tell: Callable[[int], None]) -> None:
         """Does steps as far as they are not refused, and passes over all that they print. `length` is how many stand then; `tell` hears it
@@ -222,8 +220,6 @@ class Conversation:
         left, rest = len(parts), b"\n"
         while left:
             part = self.read_some()
-            if not part:
-                self.ended()
             part = rest + part
             rest = part[part.rfind(b"\n") :]
             for at in AT_LINE.findall(part):
@@ -243,7 +239,7 @@ class Conversation:
         """Asks many commands that do steps, and answers all their lines, without saying which are whose."""
         writer = started(self.send_quietly, "\n".join([*commands, "back 0", ""]))
         # (no line of theirs begins so but the last one)
-        lines = self.lines_until(b"at ")
+        lines = self.bytes_until(b"at ").decode("ascii", "replace").split("\n")[:-1]
         writer.join()
         self.length = int(lines.pop().removeprefix("at "))
         return lines
@@ -252,29 +248,23 @@ class Conversation:
         """What the program has written, as soon as there is some."""
         output: Any = self.output
         part: bytes = output.read1(1 << 16)
+        if not part:
+            self.ended()
         return part
 
-    def lines_until(self, last: bytes) -> list[str]:
-        """All lines up to one that begins so, which is the last one that comes."""
-        return self.bytes_until(last).decode("ascii", "replace").split("\n")[:-1]
-
     def bytes_until(self, last: bytes) -> bytearray:
-        """The same as bytes."""
+        """All lines up to one that begins so, which is the last one that comes."""
         said = bytearray()
         while not said.endswith(b"\n") or not said.startswith(last, said.rfind(b"\n", 0, -1) + 1):
             part = self.read_some()
-            if not part:
-                self.ended()
             said += part
         return said
 
     def send_quietly(self, text: str) -> None:
         """Sends, where the reader is the one who tells that the program has ended."""
-        try:
+        with contextlib.suppress(BrokenPipeError, ValueError):
             self.input.write(text.encode("ascii", "surrogateescape"))
             self.input.flush()
-        except (BrokenPipeError, ValueError):
-            pass
 
     def state(self) -> State:
         return State(self.ask("state"))
@@ -348,8 +338,6 @@ class Conversation:
         rest = b""
         while True:
             part = self.read_some()
-            if not part:
-                self.ended()
             part = rest + part
             end = part.rfind(b"\n") + 1
             rest = part[end:]
@@ -375,11 +363,9 @@ class Conversation:
     def close(self) -> None:
         """Ends the program."""
         if self.process.poll() is None:
-            try:
+            with contextlib.suppress(BrokenPipeError, ValueError):
                 self.input.write(b"quit\n")
                 self.input.close()
-            except (BrokenPipeError, ValueError):
-                pass
             self.output.read()
             self.process.wait()
 

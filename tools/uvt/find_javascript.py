@@ -6,7 +6,7 @@ from __future__ import annotations
 import re
 from pathlib import Path
 
-from uvt.conversation import Fault
+from uvt.inputs import Fault, bytes_of
 from uvt.javascript_pieces import PLACE
 from uvt.notes import Notes
 from uvt.notes_read import read_notes
@@ -35,10 +35,7 @@ def named(path: Path, lines: list[str]) -> tuple[list[str], list[str]]:
     """The lines of a question with names for lines of JavaScript; and what each of these stands for, in a sentence."""
     if not any(PLACE.fullmatch(word) for line in lines for word in line.split(" ")):
         return lines, []
-    try:
-        notes = read_notes(path, path.read_bytes())
-    except OSError as fault:
-        raise Fault(f"{path}: {fault.strerror}") from None
+    notes = read_notes(path, bytes_of(path))
     said: dict[str, str] = {}
 
     def put(word: str) -> str:

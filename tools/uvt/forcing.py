@@ -24,11 +24,12 @@ from pathlib import Path
 from uvt.conversation import Fault, Script
 from uvt.hangs import read_hang
 from uvt.inputs import HOOKED
+from uvt.notes import signal_name
 from uvt.record.compiled import recorder
 from uvt.record.files import room_for, taken
 from uvt.record.parts import Part
 from uvt.record.run import from_fresh, from_log
-from uvt.record.started import sanitizers, why_not, with_hooks
+from uvt.record.started import in_front_of, sanitizers, why_not, with_hooks
 from uvt.schedule import schedule, workers_of
 
 # A sanitizer's own words. (A leak is none of an order: nobody looks for it, unless the user asks.)
@@ -114,15 +115,8 @@ class Ran:
         report = REPORT.search(self.output)
         words = f" ({report[1]})" if report else ""
         if self.status < 0:
-            return f"was ended by {signal_of(-self.status)}{words}"
+            return f"was ended by {signal_name(-self.status)}{words}"
         return f"ended with status {self.status}{words}" if self.status or report else ""
-
-
-def signal_of(number: int) -> str:
-    try:
-        return signal.Signals(number).name
-    except ValueError:
-        return f"signal {number}"
 
 
 def environment_of(words: list[str], folder: Path, order: Order) -> dict[str, str]:
@@ -246,13 +240,10 @@ def run_here(words: list[str], environment: dict[str, str], folder: Path) -> tup
         ran = subprocess.Popen(words, env=dict(os.environ, **environment))
     except OSError as fault:
         raise Fault(why_not(words[0], fault)) from None
-    # (an interrupt at the terminal is for the program; what ends this tool ends the program)
-    before = {signal.SIGINT: signal.signal(signal.SIGINT, lambda *_: None)}
-    before |= {it: signal.signal(it, lambda *_: ran.terminate()) for it in (signal.SIGTERM, signal.SIGHUP)}
     # (who looks on in a debugger wants it alive)
     ends = () if Path(words[0]).name == "gdb" else (SURE, ROUND)
     late = False
-    try:
+    with in_front_of(ran):
         while ran.poll() is None and not late:
             with contextlib.suppress(subprocess.TimeoutExpired):
                 ran.wait(LOOK)
@@ -260,9 +251,6 @@ def run_here(words: list[str], environment: dict[str, str], folder: Path) -> tup
         if late:
             ran.kill()
         status = ran.wait()
-    finally:
-        for number, handler in before.items():
-            signal.signal(number, handler)
     return ran.pid, Ran(status, time.monotonic() - began, late=late)
 
 
@@ -314,7 +302,9 @@ def run(
         if logs and (records(ran) if callable(records) else records):
             said = io.StringIO()
             with contextlib.redirect_stdout(said):
-                from_fresh(taken(logs[0], Path(f"{name}.log")), name, False, part, signal_of(-ran.status) if ran.status < 0 and not ran.late else "")
+                from_fresh(
+                    taken(logs[0], Path(f"{name}.log")), name, False, part, signal_name(-ran.status) if ran.status < 0 and not ran.late else ""
+                )
             ran.recorded = said.getvalue()
         return ran
 

@@ -6,6 +6,8 @@ import re
 from dataclasses import dataclass, field
 from pathlib import Path
 
+from uvt.notes import times
+
 FRAME = re.compile(r"^ +#\d+ 0x[0-9a-f]+ in (\S+) (\S+):(\d+)", re.MULTILINE)
 # Sources of the sanitizer's own, and of the C library, as distributions compile it.
 OTHERS = re.compile(r"\.\.|\./(?:nptl|libio|stdlib|csu|string|elf|posix|io|misc|socket|inet|resolv|time|malloc|debug|nss|signal|sysdeps)/")
@@ -51,13 +53,9 @@ class Counts:
         departed = [f"{self.departed} departed"] if self.departed else []
         once = in_brackets([f"{self.once} took too long, and not again"] if self.once else [])
         return (
-            f"{counted(self.questions, 'question')}{in_brackets(more)}, {counted(self.found, 'order')} found and forced{in_brackets(departed)},"
+            f"{times(self.questions, 'question')}{in_brackets(more)}, {times(self.found, 'order')} found and forced{in_brackets(departed)},"
             f" {self.random} at random{once}, {self.seconds:.0f} s"
         )
-
-
-def counted(count: int, word: str) -> str:
-    return f"{count} {word}{'' if count == 1 else 's'}"
 
 
 def in_brackets(words: list[str]) -> str:

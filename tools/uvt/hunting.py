@@ -5,7 +5,6 @@ from __future__ import annotations
 import itertools
 import math
 import subprocess
-import tempfile
 import time
 import zlib
 from collections.abc import Callable, Iterator
@@ -312,15 +311,13 @@ class Hunt:
 
     def searched(self, lines: list[str]) -> str:
         """The session that is found, or ``."""
-        with tempfile.TemporaryFile() as given:
-            given.write("".join(f"{it}\n" for it in lines).encode("ascii", "surrogateescape"))
-            given.seek(0)
-            try:
-                ran = subprocess.run([self.search], stdin=given, capture_output=True, timeout=min(SEARCH, self.left()), start_new_session=True)
-            except subprocess.TimeoutExpired:
-                return ""
-            except OSError as fault:
-                raise Fault(f"{self.search} could not be started: {fault.strerror}") from None
+        asked = "".join(f"{it}\n" for it in lines).encode("ascii", "surrogateescape")
+        try:
+            ran = subprocess.run([self.search], input=asked, capture_output=True, timeout=min(SEARCH, self.left()), start_new_session=True)
+        except subprocess.TimeoutExpired:
+            return ""
+        except OSError as fault:
+            raise Fault(f"{self.search} could not be started: {fault.strerror}") from None
         first, _, session = ran.stdout.decode("ascii", "replace").partition("\n")
         self.counts.never += first.startswith("never")
         if ran.returncode not in (0, 1, 3):

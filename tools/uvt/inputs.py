@@ -40,6 +40,11 @@ class Script:
         """The names, in the order of their declarations."""
         return [it.split(" ")[1] for it in self.lines if it.startswith("var ") and it.count(" ") == 1]
 
+    def ops(self) -> list[list[str]]:
+        """The words of each op, of the main program and of callbacks."""
+        found = (it.split(" ") for it in self.lines if it.startswith(("main ", "on ", "after ", "closed ")))
+        return [words[1:] if words[0] == "main" else [it for it in words[2:] if not it.startswith("@")] for words in found]
+
     @functools.cached_property
     def places(self) -> dict[str, list[int]]:
         """The numbers, from 0, of the lines of each list, in order: those of `main`, of `on NAME`, .."""
@@ -112,15 +117,18 @@ def read_bytes(data: bytes, path: Path | None) -> tuple[Script, list[str]]:
     return script, steps
 
 
-def read_input(path: Path) -> tuple[Script, list[str]]:
-    """The same, of a file."""
+def bytes_of(path: Path) -> bytes:
     try:
-        data = path.read_bytes()
+        return path.read_bytes()
     except OSError as fault:
         raise Fault(f"{path}: {fault.strerror}") from None
     except ValueError:
         raise Fault("this is no path: it has a zero byte, or a sign that no name of a file may have") from None
-    return read_bytes(data, path)
+
+
+def read_input(path: Path) -> tuple[Script, list[str]]:
+    """The same, of a file."""
+    return read_bytes(bytes_of(path), path)
 
 
 def read_descriptor(file: BinaryIO) -> tuple[Script, list[str]]:

@@ -9,7 +9,6 @@ from __future__ import annotations
 
 import bisect
 import itertools
-import re
 from collections.abc import Mapping, Sequence
 from dataclasses import dataclass, field
 
@@ -29,7 +28,6 @@ from uvt.javascript_pieces import (
     Resource,
     Span,
     Under,
-    at,
     how_much,
     length,
     longest,

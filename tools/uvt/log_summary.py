@@ -110,10 +110,6 @@ class Glance:
 
     # ---- in words
 
-    def stall(self) -> Long | None:
-        """The callback that took longest."""
-        return max(self.longest, default=None)
-
     def told(self, it: Long) -> str:
         return f"{it.took} ms: {self.names.callback(it.id, it.what)}, at {it.begin} ms, line {it.line} of the log"
 

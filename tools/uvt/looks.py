@@ -7,7 +7,6 @@ import re
 from typing import Iterator, NamedTuple
 
 from uvt.inputs import Fault
-from uvt.state import Slot
 from uvt.walk import Walk
 
 # So many are asked for without waiting.
@@ -33,43 +32,15 @@ class Seen(NamedTuple):
     due: int | None
 
 
-def seen(slot: Slot | None, name: str) -> Seen | None:
-    """The same of a slot: of that name, as it mostly is, or of another one. (There are many of them.)"""
-    if not slot:
-        return None
-    is_active = slot.values.get("active") == "1"
-    due = int(slot.values["due"]) if is_active and "due" in slot.values else None
-    return Seen(name if slot.name == name else slot.name, is_active, due)
-
-
 def seen_at(walk: Walk, looks: list[Look]) -> Iterator[tuple[Look, Seen | None]]:
-    """All these slots, each by its name's own lines."""
+    """All these slots, each by its name's own lines; None of one that is gone. (A name stands for another one only when its own is.)"""
     looks = sorted(looks, key=operator.attrgetter("last"))
-    gone: list[Look] = []
     for first in range(0, len(looks), AT_ONCE):
         some = looks[first : first + AT_ONCE]
         found = ANSWER.findall(walk.talk.names_at([(it.last, it.name) for it in some]))
         if len(found) != len(some):
             raise Fault(f"the program tells of {len(found)} names where {len(some)} were asked for")
         for look, (id, _, name, active, due) in zip(some, found):
-            if id == look.id:
-                is_active = active == "1"
-                yield look, Seen(look.name if name == look.name else name, is_active, int(due) if is_active and due else None)
-            else:
-                gone.append(look)
-    for look, slot in slots_of_states(walk, gone):
-        yield look, seen(slot, look.name)
-
-
-def slots_of_states(walk: Walk, looks: list[Look]) -> Iterator[tuple[Look, Slot | None]]:
-    """The same of slots that their names don't hold any more, by as few states as there can be: one serves all looks whose lengths it lies
-    between."""
-    lengths: list[int] = []
-    for it in looks:
-        if not lengths or it.first > lengths[-1]:
-            lengths.append(it.last)
-    at = 0
-    for length, state in walk.states_at(lengths):
-        while at < len(looks) and looks[at].first <= length:
-            yield looks[at], state.slot_at(looks[at].id)
-            at += 1
+            is_active = active == "1"
+            slot = Seen(look.name if name == look.name else name, is_active, int(due) if is_active and due else None)
+            yield look, slot if id == look.id else None

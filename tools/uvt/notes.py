@@ -193,10 +193,6 @@ class Notes:
         """Is it a handle of I/O?"""
         return self.kind(name) in THINGS
 
-    def thing(self, name: str) -> str:
-        """What a handle of I/O is: `a tcp`, `a watched file`; `` of any other one."""
-        return THINGS.get(self.kind(name), "")
-
     def came(self, name: str, call: int) -> str:
         """What came with this call of a handle of I/O, in words: `512 bytes were read`, `the end of the stream`; `` where nobody knows."""
         return sentence(self.what.get(name, {}).get(call, ""))
@@ -280,6 +276,16 @@ def signal_name(number: str | int) -> str:
         return signal.Signals(int(number)).name
     except ValueError:
         return f"signal {number}"
+
+
+def times(count: int, what: str) -> str:
+    """`1 call`, `2 calls`."""
+    return f"{count} {what}" if count == 1 else f"{count} {what}s"
+
+
+def some(names: list[str], most: int) -> str:
+    """Names in one line, the first ones where there are more than so many."""
+    return ", ".join(names[:most]) + (f" and {len(names) - most} more" if len(names) > most else "")
 
 
 def listed(texts: list[str]) -> str:

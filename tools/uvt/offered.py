@@ -34,6 +34,9 @@ class Offered:
     # the ms that close callbacks took
     closed: int = 0
     clock: int = 0
+    # of one recording the lines that say what came, in its order; and what is no step, `` where each is one
+    recorded: list[str] = field(default_factory=list)
+    other: str = ""
 
     def lines(self, given: list[str]) -> list[str]:
         """The lines that say it, except for what these lines say already."""
@@ -48,6 +51,14 @@ class Offered:
         if any(it.startswith("takes ") for it in given):
             return []
         return [f"takes {name} @{call} {ms}" for (_, name, call), ms in sorted(self.takes.items()) if ms]
+
+    def near(self, given: list[str]) -> list[str]:
+        """The lines behind `may differ`, except for what these lines say already: what came, that the clock goes on where the loop waits, how long
+        callbacks took, and how far the clock went."""
+        if self.other:
+            raise Fault(f"an order may differ from steps alone, and `{self.other}` is none")
+        said = self.recorded + [it for it in ["may wait"] if it not in given] + self.taken(given)
+        return said + ([] if any(it.startswith("most clock ") for it in given) else [f"most clock {self.clock}"])
 
     def sentence(self) -> str:
         """What is offered, for a person."""
@@ -157,7 +168,9 @@ def spent(script: Script, steps: list[str]) -> tuple[list[list[str]], dict[int, 
 def offered(script: Script, steps: list[str]) -> Offered:
     """What came in these steps."""
     found = Offered()
-    _, times, found.calls = spent(script, steps)
+    lines, times, found.calls = spent(script, steps)
+    found.recorded = recorded_lines(steps, lines, times)
+    found.other = next((it for it in steps if it.split(" ")[0] not in STEPS), "")
     for step in steps:
         word, _, argument = step.partition(" ")
         if word in FROM_OUTSIDE:
@@ -173,16 +186,12 @@ def offered(script: Script, steps: list[str]) -> Offered:
     return found
 
 
-def recorded_lines(script: Script, steps: list[str]) -> list[str]:
+def recorded_lines(steps: list[str], all_lines: list[list[str]], times: dict[int, Spent]) -> list[str]:
     """What came from outside in these steps, a line for each in their order, with its place: so many polls, and so many steps of the loop behind
     the last of them, behind the place of the one before it. A wait up to a poll's deadline is such a step, and what callbacks took is said by
     `takes`."""
-    other = next((it for it in steps if it.split(" ")[0] not in STEPS), None)
-    if other:
-        raise Fault(f"an order may differ from steps alone, and `{other}` is none")
     said: list[str] = []
     polls = taken = 0
-    all_lines, times, _ = spent(script, steps)
     for number, (step, lines) in enumerate(zip(steps, all_lines)):
         if step == "loop":
             if lines and lines[0].startswith("poll "):
@@ -201,19 +210,7 @@ def recorded_lines(script: Script, steps: list[str]) -> list[str]:
     return said
 
 
-def near_lines(script: Script, steps: list[str], given: list[str]) -> list[str]:
-    """The lines behind `may differ`, except for what these lines say already: what came in these steps, that the clock goes on where the loop
-    waits, how long callbacks took, and how far the clock went."""
-    found = offered(script, steps)
-    said = recorded_lines(script, steps)
-    said += [it for it in ["may wait"] if it not in given]
-    said += found.taken(given)
-    return said + ([] if any(it.startswith("most clock ") for it in given) else [f"most clock {found.clock}"])
-
-
 def never_called(script: Script, calls: Counter[tuple[str, str]]) -> list[str]:
     """The names with a callback that the recording has no call of, so that nobody knows what it does."""
-    ops = [it.split(" ") for it in script.lines if it.startswith(("main ", "on ", "after ", "closed "))]
-    ops = [words[1:] if words[0] == "main" else [it for it in words[2:] if not it.startswith("@")] for words in ops]
-    waiting = dict.fromkeys(("on" if op[0] == "init" else "after", op[1]) for op in ops if op[0] in ("init", "queue") and len(op) > 2)
+    waiting = dict.fromkeys(("on" if op[0] == "init" else "after", op[1]) for op in script.ops() if op[0] in ("init", "queue") and len(op) > 2)
     return [name for which, name in waiting if not calls[which, name]]

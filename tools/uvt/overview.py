@@ -16,7 +16,8 @@ from uvt.places import read_place
 from uvt.waits import Wait, follow
 from uvt.took import Took
 from uvt.walk import Walk
-from uvt.causes import FIFTH, MAIN, MANY, few, in_javascript, named, one_main, sentence, times
+from uvt.causes import FIFTH, MAIN, MANY, few, in_javascript, named, one_main, sentence
+from uvt.notes import some, times
 from uvt.why import Why
 from uvt.why_uncalled import KINDS
 from uvt.why_work import HALF, SLOW
@@ -81,11 +82,6 @@ def main_program(walk: Walk) -> list[str]:
     """What JavaScript did before the first run of the loop."""
     found = [it for it in one_main(walk.tooks) if it.what == MAIN and walk.notes.javascript.told(it.pieces[0][0], it.pieces[-1][1])]
     return [f"{it.took()} ms, from step {it.first} to {it.last}" + in_javascript(walk, it, it.pieces[0][0], it.pieces[-1][1]) for it in found]
-
-
-def listed(names: list[str]) -> str:
-    """These names, or as many of them as a person reads."""
-    return ", ".join(names[:NAMES]) + (f" and {len(names) - NAMES} more" if len(names) > NAMES else "")
 
 
 class Overview(Spins):
@@ -349,7 +345,7 @@ class Overview(Spins):
         late = max(self.next, default=(0, ""))[1]
         name = self.first or late or next(iter(self.whys), "")
         functions = self.walk.notes.javascript.names()
-        lines += [f"functions of {language}: {listed(functions)}"] if functions else []
-        lines += [f"names: {listed(asked_for)}"] if asked_for else []
+        lines += [f"functions of {language}: {some(functions, NAMES)}"] if functions else []
+        lines += [f"names: {some(asked_for, NAMES)}"] if asked_for else []
         lines += [f"ask next: {ask.replace('NAME', name)}"] if name else []
         return [row for line in lines for row in fitted(line)] if self.walk.notes.javascript else lines

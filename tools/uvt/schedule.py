@@ -6,21 +6,10 @@ import re
 from pathlib import Path
 
 from uvt.conversation import Conversation, Script
+from uvt.offered import STEPS, single
 from uvt.session_lines import LISTS, SECTIONS
 
 ASKS = {"now", "alive", "timeout", "due", "hasref", "active", "closing"}
-
-
-def single(commands: list[str]) -> list[str]:
-    """The steps of a session, one by one."""
-    steps = []
-    for it in commands:
-        words = it.split(" ")
-        if words[0] == "loop":
-            steps += ["loop"] * (int(words[1]) if len(words) > 1 else 1)
-        elif words[0] in ("tick", "take", "finish", "send", "io", "cancel"):
-            steps.append(it)
-    return steps
 
 
 def row(kind: str, step: int, text: str, name: int = -1, number: int = 0, shown: tuple[str, str, str] = ("", "", "")) -> str:
@@ -64,7 +53,7 @@ def schedule(script: Script, commands: list[str]) -> tuple[list[str], list[str]]
     names = {it: at for at, it in enumerate(script.names())}
     rows: list[str] = []
     lines: list[str] = []
-    steps = single(commands)
+    steps = [it for it in single(commands) if it.split(" ")[0] in STEPS]
     unseen = "wake" if has_wake(script) else ""
     with Conversation(script) as talk:
         for command, answer in zip(steps, talk.ask_each(steps)):

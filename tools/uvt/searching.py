@@ -10,7 +10,7 @@ import tempfile
 import time
 from typing import IO
 
-from uvt.conversation import ROOT, Fault, started
+from uvt.conversation import Fault, search_program, started
 
 BAD_LINE, UNSETTLED = 2, 3
 BAD = b"bad script line"
@@ -21,16 +21,6 @@ FIRST_STATES, GROWTH = 1_000, 10
 # How often the program is looked at, and how long a search is silent at a terminal, in seconds.
 PAUSE = 0.1
 SILENT = 2
-
-
-def search_program() -> str:
-    named = os.environ.get("UVT_FIND")
-    if named:
-        return named
-    asked = subprocess.run([str(ROOT / "uvt"), "path", "find"], stdin=subprocess.DEVNULL, stdout=subprocess.PIPE, text=True)
-    if asked.returncode:
-        raise Fault("there is no program that searches")
-    return asked.stdout.rstrip("\n")
 
 
 def held(process: int) -> str:

@@ -43,6 +43,13 @@ class Took:
         """How much of it that was, where it isn't all of it."""
         return processor_told(self.processor, self.took())
 
+    def where(self) -> str:
+        """Where that was: in node what its callback does there."""
+        return self.node.words if self.node else self.what
+
+    def steps(self) -> str:
+        return f"from step {self.first} to {self.last}" if self.first < self.last else f"at step {self.first}"
+
     def is_callback(self) -> bool:
         return self.what.startswith(CALLBACKS)
 

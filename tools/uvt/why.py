@@ -8,8 +8,8 @@ from __future__ import annotations
 
 from uvt.arrivals import LEFT, behind, came
 from uvt.beginnings import made_before
-from uvt.causes import MANY, few, steps_of, times, told
-from uvt.javascript_pieces import at
+from uvt.causes import MANY, few, steps_of
+from uvt.notes import times
 from uvt.waits import Wait, kind_of_call
 from uvt.walk import Walk
 from uvt.why_asked import CALLS

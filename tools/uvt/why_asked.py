@@ -2,7 +2,7 @@
 
 from __future__ import annotations
 
-from uvt.arrivals import behind, unwoken_between
+from uvt.arrivals import unwoken_between
 from uvt.beginnings import asked_before
 from uvt.causes import few
 from uvt.javascript_pieces import at

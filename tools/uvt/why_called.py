@@ -4,8 +4,8 @@ from __future__ import annotations
 
 from uvt import machine
 from uvt.arrivals import BEHIND, Came, LEFT, behind, called_between, came, left_by, waited
-from uvt.causes import MANY, few, in_javascript, is_told, longest_of, named, sentence, steps_of, times, told
-from uvt.javascript_pieces import at
+from uvt.causes import MANY, few, in_javascript, is_told, longest_of, named, sentence, steps_of, told
+from uvt.notes import times
 from uvt.places import read_place
 from uvt.waits import Wait
 from uvt.took import DIFFERENCE, Took

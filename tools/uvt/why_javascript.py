@@ -12,7 +12,8 @@ from uvt.javascript import JavaScript
 from uvt.javascript_pieces import LEAST, OUTSIDE, Place, Resource, Span, at, fitted, together
 from uvt.origins import Origins
 from uvt.walk import Walk
-from uvt.causes import FIFTH, MANY, ONE_BY_ONE, few, is_told, one_main, times
+from uvt.causes import FIFTH, MANY, ONE_BY_ONE, few, is_told, one_main
+from uvt.notes import times
 from uvt.why import Why
 from uvt.causes import told as without
 
@@ -45,8 +46,7 @@ class WhyJavaScript:
         causes = one_main(self.walk.causes(due, span.begin))
         for took in [it for it in causes if is_told(it, due, span.begin)] or causes:
             begin, end = max(due, took.pieces[0][0]), min(span.begin, took.pieces[-1][1])
-            steps = f"from step {took.first} to {took.last}" if took.first < took.last else f"at step {took.first}"
-            where = took.node.words if took.node else took.what
+            where, steps = took.where(), took.steps()
             if mine := self.js.parts(took.pieces[0][0], took.pieces[-1][1], (begin, end)):
                 parts += mine
                 told = [f"{it.who.text()}: {it.what}, in {where}, {steps}" for it in mine if it.what] or [f"in {where}, {steps}"]
@@ -227,7 +227,7 @@ class WhyJavaScript:
         ]
         for mine, took in rows[:MANY]:
             begin, end = took.pieces[0][0], took.pieces[-1][1]
-            lines.append(f"step {took.first}: {mine} ms, in {took.node.words if took.node else took.what}: {'; '.join(self.js.told(begin, end))}")
+            lines.append(f"step {took.first}: {mine} ms, in {took.where()}: {'; '.join(self.js.told(begin, end))}")
         return lines
 
     def functions(self) -> list[str]:

@@ -2,9 +2,7 @@
 
 from __future__ import annotations
 
-from uvt.arrivals import behind, came
 from uvt.causes import few, steps_of
-from uvt.javascript_pieces import at
 from uvt.places import Place
 from uvt.state import State
 from uvt.waits import Refusal, Wait

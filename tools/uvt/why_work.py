@@ -2,10 +2,9 @@
 
 from __future__ import annotations
 
-from uvt.arrivals import behind, came, waited
 from uvt.beginnings import at_least
-from uvt.causes import MANY, few, times, told
-from uvt.javascript_pieces import at
+from uvt.causes import MANY, few, told
+from uvt.notes import times
 from uvt.waits import Wait
 from uvt.took import DIFFERENCE, processor_told
 from uvt.why_called import Called

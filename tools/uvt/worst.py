@@ -4,7 +4,6 @@ from __future__ import annotations
 
 import re
 import subprocess
-import tempfile
 import threading
 import time
 from concurrent.futures import FIRST_EXCEPTION, ThreadPoolExecutor, wait
@@ -12,7 +11,7 @@ from dataclasses import dataclass, field
 from typing import Callable
 
 from uvt.conversation import Fault, Script
-from uvt.offered import Offered, near_lines, offered
+from uvt.offered import Offered, offered
 
 FOUND, NEVER, UNSETTLED = 0, 1, 3
 # By which numbers of states a search comes to as many as are asked for: what isn't settled was followed so far at least.
@@ -25,9 +24,7 @@ KINDS = {"timer": "timer", "async": "async"}
 
 def kinds_of(script: Script, given: Offered) -> dict[str, str]:
     """What each name is that was called: a timer, an async handle or a request. Others have no time from which they might be late."""
-    ops = [it.split(" ") for it in script.lines if it.startswith(("main ", "on ", "after ", "closed "))]
-    ops = [words[1:] if words[0] == "main" else [it for it in words[2:] if not it.startswith("@")] for words in ops]
-    made = {op[1]: KINDS[op[2]] for op in ops if op[0] == "init" and len(op) > 2 and op[2] in KINDS}
+    made = {op[1]: KINDS[op[2]] for op in script.ops() if op[0] == "init" and len(op) > 2 and op[2] in KINDS}
     made.update({name: "request" for which, name in given.calls if which == "after"})
     called = {name for which, name in given.calls if which != "closed"}
     return {name: kind for name, kind in made.items() if name in called}
@@ -127,18 +124,15 @@ class Asker:
 
     def ask(self, lines: list[str], seconds: float) -> tuple[int | None, str, str]:
         """The status, the first line of the answer, and the session behind it; no status where that took too long."""
-        text = "".join(f"{it}\n" for it in [*self.script.lines, "begin", *lines])
-        with tempfile.TemporaryFile() as given:
-            given.write(text.encode("ascii", "surrogateescape"))
-            given.seek(0)
-            try:
-                ran = subprocess.Popen([self.program], stdin=given, stdout=subprocess.PIPE, stderr=subprocess.PIPE)
-            except OSError as fault:
-                raise Fault(f"{self.program} could not be started: {fault.strerror}") from None
+        asked = "".join(f"{it}\n" for it in [*self.script.lines, "begin", *lines]).encode("ascii", "surrogateescape")
+        try:
+            ran = subprocess.Popen([self.program], stdin=subprocess.PIPE, stdout=subprocess.PIPE, stderr=subprocess.PIPE)
+        except OSError as fault:
+            raise Fault(f"{self.program} could not be started: {fault.strerror}") from None
         with self.lock:
             self.running.add(ran)
         try:
-            output, errors = ran.communicate(timeout=max(seconds, 0.1))
+            output, errors = ran.communicate(asked, max(seconds, 0.1))
         except subprocess.TimeoutExpired:
             return None, "", ""
         finally:
@@ -155,9 +149,9 @@ class Asker:
                 it.kill()
 
 
-def sets_of(script: Script, steps: list[str], given: Offered, differ: list[int]) -> list[Orders]:
+def sets_of(given: Offered, differ: list[int]) -> list[Orders]:
     """The sets of orders: the recorded one, those with at most K steps from outside elsewhere, and every one of what came."""
-    near = near_lines(script, steps, [])
+    near = given.near([])
     words = {0: "in this run"}
     found = [Orders(words.get(k, f"{k} moved"), [f"may differ {k}", *near]) for k in [0, *differ]]
     return [*found, Orders("every order", given.lines([]))]
@@ -210,7 +204,7 @@ def rows_of(
         for name, kind in sorted(kinds.items(), key=lambda it: (list({"timer": 0, "async": 1, "request": 2}).index(it[1]), it[0]))
         if not names or name in names
     ]
-    sets = sets_of(script, steps, given, differ)
+    sets = sets_of(given, differ)
     asks = [(row, orders) for orders in sets for row in rows]
     done = 0
 

@@ -41,11 +41,11 @@ from pathlib import Path
 from launch import bad_line
 from launch.tool import START, run_tool
 from uvt.conversation import INSTALLED, Fault, Script
-from uvt.inputs import HOOKED, read_input
+from uvt.inputs import HOOKED, bytes_of, read_input
 from uvt.find_javascript import named
 from uvt.joined import Recorded, joined
-from uvt.notes import harmless
-from uvt.offered import near_lines, never_called, offered, single
+from uvt.notes import harmless, some
+from uvt.offered import Offered, never_called, offered, single
 from uvt.searching import BAD_LINE, UNSETTLED, Search
 
 FOUND, NEVER, OWN_FAULT = 0, 1, 70
@@ -60,10 +60,8 @@ def inquiry(paths: list[Path], lines: list[str]) -> tuple[bytes, list[str]]:
     if lines in ([], [FULL]):
         if len(paths) > 1:
             raise Fault("no line asks anything of these recordings: 'find call NAME' does")
-        try:
-            return with_full(paths[0].read_bytes()) if lines else paths[0].read_bytes(), []
-        except OSError as fault:
-            raise Fault(f"{paths[0]}: {fault.strerror}") from None
+        asked = bytes_of(paths[0])
+        return with_full(asked) if lines else asked, []
     read = [(script, single(steps)) for script, steps in map(read_input, paths)]
     differing = next((it for it in lines if it.split(" ")[:2] == ["may", "differ"]), None)
     if differing and not read[0][1]:
@@ -71,8 +69,9 @@ def inquiry(paths: list[Path], lines: list[str]) -> tuple[bytes, list[str]]:
     if not all(script.is_recorded() for script, _ in read):
         if len(paths) > 1:
             raise Fault(f"{next(path for path, (script, _) in zip(paths, read) if not script.is_recorded())} is no recording, and several files are")
-        return text_of(read[0][0].lines, differed(*read[0], lines, differing)), []
-    whole, said = joined([Recorded(path, script, offered(script, steps)) for path, (script, steps) in zip(paths, read)])
+        return text_of(read[0][0].lines, differed(offered(*read[0]), lines, differing) if differing else lines), []
+    recordings = [Recorded(path, script, offered(script, steps)) for path, (script, steps) in zip(paths, read)]
+    whole, said = joined(recordings)
     brought = [] if any(it.startswith("may ") for it in lines) else whole.offered.lines(lines)
     said += of_recording(whole, bool(brought))
     if differing:
@@ -80,7 +79,8 @@ def inquiry(paths: list[Path], lines: list[str]) -> tuple[bytes, list[str]]:
             f"`{differing}`: so many of the steps from outside in {paths[0]} may come at another place, those of one name, of one worker or "
             "of the clock in their order; each other one comes at its place, or as soon after it as the loop accepts it"
         )
-    return text_of(whole.script.lines, brought + differed(*read[0], lines, differing)), said
+        lines = differed(recordings[0].offered, lines, differing)
+    return text_of(whole.script.lines, brought + lines), said
 
 
 def with_full(asked: bytes) -> bytes:
@@ -96,12 +96,10 @@ def is_line(word: str) -> bool:
     return " " in word or word == FULL
 
 
-def differed(script: Script, steps: list[str], lines: list[str], differing: str | None) -> list[str]:
-    """These lines, with what came in the steps behind `may differ`."""
-    if not differing:
-        return lines
+def differed(came: Offered, lines: list[str], differing: str) -> list[str]:
+    """These lines, with what came behind `may differ`."""
     at = lines.index(differing) + 1
-    return lines[:at] + near_lines(script, steps, lines) + lines[at:]
+    return lines[:at] + came.near(lines) + lines[at:]
 
 
 def text_of(script: list[str], lines: list[str]) -> bytes:
@@ -115,7 +113,7 @@ def of_recording(whole: Recorded, brings: bool) -> list[str]:
         said.append(f"close callbacks take no time here: they took {whole.offered.closed} ms")
     unknown = never_called(whole.script, whole.offered.calls)
     if unknown:
-        whose = f"callback of {unknown[0]} does" if len(unknown) == 1 else f"callbacks of {listed(unknown)} do"
+        whose = f"callback of {unknown[0]} does" if len(unknown) == 1 else f"callbacks of {some(unknown, SHOWN)} do"
         said.append(f"what the {whose} isn't known, since no call was recorded: here a call does nothing")
     return [*said, "each callback does what it did in the recording, also where the program would do something else"]
 
@@ -136,21 +134,11 @@ def explain(asked: bytes, said: bytes) -> None:
         print(f"uvt: {why.sentence()}", file=sys.stderr)
 
 
-def listed(names: list[str]) -> str:
-    """Names in one line, the first few of them where there are many."""
-    return ", ".join(names[:SHOWN]) + (f" and {len(names) - SHOWN} more" if len(names) > SHOWN else "")
-
-
 def left_out(asked: bytes) -> list[str]:
     """What can come in no order, since no line offers it: a sentence for each."""
-    lines = [line.split(" ") for line in asked.decode("ascii", "replace").split("\n")]
-    begin = lines.index(["begin"]) if ["begin"] in lines else len(lines)
-    asks = lines[begin + 1 :]
-    ops = [
-        words[1:] if words[0] == "main" else [it for it in words[2:] if not it.startswith("@")]
-        for words in lines[:begin]
-        if words[0] in ("main", "on", "after", "closed")
-    ]
+    lines = asked.decode("ascii", "replace").split("\n")
+    begin = lines.index("begin") if "begin" in lines else len(lines)
+    asks, ops = [it.split(" ") for it in lines[begin + 1 :]], Script(lines[:begin]).ops()
     made = dict.fromkeys((op[1], op[2]) for op in ops if op[:1] == ["init"] and len(op) == 3)
     sent = {op[1] for op in ops if op[:1] == ["send"] and len(op) > 1}
     differs = any(words[:2] == ["may", "differ"] for words in asks)
@@ -159,13 +147,13 @@ def left_out(asked: bytes) -> list[str]:
     unsent = [name for name, kind in made if kind == "async" and ("may", "send", name) not in offered and name not in sent]
     said = []
     if differs and (waiting or unsent):
-        said.append(f"nothing came for {listed(waiting + unsent)} in the recording: in each of these orders none of their callbacks is called")
+        said.append(f"nothing came for {some(waiting + unsent, SHOWN)} in the recording: in each of these orders none of their callbacks is called")
         waiting, unsent = [], []
     if waiting:
-        never = f"in each of these orders nothing comes for {listed(waiting)}, and none of their callbacks is called"
+        never = f"in each of these orders nothing comes for {some(waiting, SHOWN)}, and none of their callbacks is called"
         said.append(f"no line says `may io {waiting[0]} N`: {never}")
     if unsent:
-        said.append(f"no line says `may send {unsent[0]} N`, and no op sends: in each of these orders {listed(unsent)} is never called")
+        said.append(f"no line says `may send {unsent[0]} N`, and no op sends: in each of these orders {some(unsent, SHOWN)} is never called")
     said += [
         f"no line makes `{words[2]}` a handle of I/O, so nothing comes for it"
         for words in asks

@@ -39,7 +39,7 @@ from uvt.forcing import Order, Ran, badly, bound, first_run, limit, recording_of
 from uvt.schedule import agreement
 from uvt.hunt_ends import place_of
 from uvt.judging import judged
-from uvt.notes import harmless
+from uvt.notes import harmless, times
 
 WELL, DEPARTS, FAULT, BADLY = 0, 1, 2, 3
 # A test that says nothing, as automake, meson and ctest (SKIP_RETURN_CODE 77) have it; and how long one may take, in seconds.
@@ -49,17 +49,13 @@ LINES = 12
 FORCE = "uvt force" if INSTALLED else "./uvt force"
 
 
-def counted(count: int, word: str) -> str:
-    return f"{count} {word}{'' if count == 1 else 's'}"
-
-
 def summary(ran: Ran, order: Order, recorded: bool) -> tuple[str, bool]:
     """All in a line; and whether all went as in the session."""
     length = len(order.lines)
     steps = f"all {length} steps" if ran.done else f"{ran.steps} of {length} steps"
     says = agreement(order.lines, recording_of(ran.name, order.loop)) if recorded else ""
     good = ran.done and ran.departures == 0 and says in ("", "same")
-    return ", ".join(filter(None, [steps, counted(ran.departures, "departure"), says])), good
+    return ", ".join(filter(None, [steps, times(ran.departures, "departure"), says])), good
 
 
 def in_order(words: list[str], order: Order, name: str, records: bool) -> int:
@@ -113,7 +109,7 @@ def at_random(words: list[str], runs: int, wanted: Order, name: str) -> int:
             print("\n".join([*(f"    {it}" for it in ran.hang), *ran.output.splitlines()[:LINES]]))
             print(f"its order: {FORCE}{' --early' if ran.early else ''} {recording_of(name, loop)} {shlex.join(words)}", flush=True)
             return BADLY
-    print(f"{counted(runs, 'run')}, and each ended {'as that did' if first.ended() else 'well'}")
+    print(f"{times(runs, 'run')}, and each ended {'as that did' if first.ended() else 'well'}")
     return WELL
 
 

@@ -32,13 +32,13 @@ from __future__ import annotations
 
 import argparse
 import dataclasses
+import itertools
 import json
 import os
 import re
 import shlex
 import shutil
 import signal
-import subprocess
 import sys
 import tempfile
 import time
@@ -46,10 +46,10 @@ from pathlib import Path
 from typing import Any
 
 from launch.tool import run_tool
-from uvt.conversation import INSTALLED, ROOT, Fault, built_program
+from uvt.conversation import INSTALLED, Fault, built_program, search_program
 from uvt.hunting import Hunt, Wishes
-from uvt.hunt_ends import Bad, Counts, counted
-from uvt.notes import harmless
+from uvt.hunt_ends import Bad, Counts
+from uvt.notes import harmless, times
 from uvt.record.compiled import recorder
 from uvt.record.files import room_in, write
 from uvt.reports import junit, sarif
@@ -67,12 +67,7 @@ def prepare() -> str:
     program that searches."""
     recorder()
     recorder(forcing=True)
-    os.environ["UVT"] = built_program()
-    if "UVT_FIND" not in os.environ:
-        asked = subprocess.run([str(ROOT / "uvt"), "path", "find"], stdin=subprocess.DEVNULL, stdout=subprocess.PIPE, text=True)
-        if asked.returncode:
-            raise Fault("there is no program that searches")
-        os.environ["UVT_FIND"] = asked.stdout.rstrip("\n")
+    os.environ["UVT"], os.environ["UVT_FIND"] = built_program(), search_program()
     return os.environ["UVT_FIND"]
 
 
@@ -87,7 +82,7 @@ class Teller:
         if self.shows:
             minutes, seconds = divmod(int(time.monotonic() - self.began), 60)
             it = self.counts
-            line = f"uvt hunt: {minutes}:{seconds:02}, {counted(it.questions, 'question')}, {it.found} forced, {it.random} at random: {what}"
+            line = f"uvt hunt: {minutes}:{seconds:02}, {times(it.questions, 'question')}, {it.found} forced, {it.random} at random: {what}"
             width = shutil.get_terminal_size().columns - 1
             print(f"\r\x1b[K{harmless(line)[:width]}", end="", file=sys.stderr, flush=True)
             self.shown = True
@@ -101,7 +96,7 @@ class Teller:
 
 
 def how_often(bad: Bad) -> str:
-    return f", and in {bad.bad_again} of {counted(bad.again, 'further run')} in the same order" if bad.again else ""
+    return f", and in {bad.bad_again} of {times(bad.again, 'further run')} in the same order" if bad.again else ""
 
 
 def of_bad(bad: Bad, name: str, words: list[str]) -> list[str]:
@@ -213,13 +208,8 @@ def are_typed(found: Counts | Bad) -> None:
 
 def ranges(numbers: list[int]) -> str:
     """`3`, `1 to 4, 7`."""
-    runs: list[list[int]] = []
-    for it in numbers:
-        if runs and runs[-1][-1] == it - 1:
-            runs[-1] = [runs[-1][0], it]
-        else:
-            runs.append([it])
-    return ", ".join(" to ".join(map(str, it)) for it in runs)
+    runs = [[it for _, it in run] for _, run in itertools.groupby(enumerate(numbers), lambda it: it[1] - it[0])]
+    return ", ".join(f"{it[0]} to {it[-1]}" if len(it) > 1 else f"{it[0]}" for it in runs)
 
 
 def join(paths: list[str], name: str | None) -> int:
@@ -246,7 +236,7 @@ def join(paths: list[str], name: str | None) -> int:
         keep_order(one, order)
         lines += [f"part {number} of {of}:", *of_bad(one, order, words)]
     lines += [] if bad else ["each run ended well"]
-    lines.append(f"    {total.text()}, in {counted(len(have), 'part')}")
+    lines.append(f"    {total.text()}, in {times(len(have), 'part')}")
     print(harmless("\n".join(lines)), flush=True)
     return BADLY if bad else WELL
 

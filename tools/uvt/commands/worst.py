@@ -27,10 +27,9 @@ import sys
 from pathlib import Path
 
 from launch.tool import run_tool
-from uvt.conversation import INSTALLED, Fault, Script
+from uvt.conversation import INSTALLED, Fault, Script, search_program
 from uvt.inputs import read_input
 from uvt.progress import Teller
-from uvt.searching import search_program
 from uvt.offered import single
 from uvt.worst import Asker, Budget, Row, Worst, beyond_budgets, rows_of
 

@@ -9,9 +9,8 @@ import bisect
 import functools
 from collections.abc import Iterator
 
-from uvt.record.items import Bound, Call, Done, End, Finish, Key, Nothing, Op, Poll, Program, Request, Run, Send, Take, Waited, Written, is_pool
+from uvt.record.items import Bound, Call, Done, End, Finish, Key, Nothing, Op, Poll, Request, Run, Send, Take, Waited, Written
 from uvt.record.events import NO_CLOCK, WATCHERS, Event, When
-from uvt.record.log import Log
 from uvt.record.ops import Ops
 from uvt.record.where import LOOKED, NEW
 from uvt.spent import Held

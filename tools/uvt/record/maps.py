@@ -7,6 +7,7 @@ it comes from one line of one source; where it comes from several, as in a file 
 from __future__ import annotations
 
 import base64
+import contextlib
 import json
 import os
 import re
@@ -75,14 +76,12 @@ class Maps:
         """The sources of a file, and its lines."""
         if file not in self.known:
             self.known[file] = [], {}
-            try:
+            with contextlib.suppress(OSError, ValueError, KeyError, TypeError, AttributeError, RecursionError):
                 text, folder = text_of_map(Path(file)) if Path(file).is_file() else ("", Path())
                 if text:
                     values = json.loads(text)
                     root = folder / values.get("sourceRoot", "") if values.get("sourceRoot") else folder
                     self.known[file] = [self.said(root, it) for it in values["sources"]], lines_of(values["mappings"])
-            except (OSError, ValueError, KeyError, TypeError, AttributeError, RecursionError):
-                pass
         return self.known[file]
 
     def said(self, root: Path, source: str | None) -> str:

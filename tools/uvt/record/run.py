@@ -9,6 +9,7 @@ import sys
 from pathlib import Path
 
 from uvt.conversation import Fault, built_program
+from uvt.inputs import bytes_of
 from uvt.notes import signal_name
 from uvt.record import ring
 from uvt.record.compiled import compile_anew
@@ -95,10 +96,7 @@ def from_log(path: Path, name: str | None, part: Part, lifts: bool = False) -> i
     """A log, or a ring, that was kept."""
     if ring.is_ring(path):
         return 0 if from_fresh(ring.log_of(path), name or ring.name_of(path), False, part, "", lifts) else 1
-    try:
-        data = path.read_bytes()
-    except OSError as fault:
-        raise Fault(f"{path}: {fault.strerror}") from None
+    data = bytes_of(path)
     lines, whole = from_data(data, read_log(data), name or path.name.removesuffix(".log"), part, lifts)
     print("\n".join(lines), flush=True)
     return 0 if whole else 1

@@ -2,6 +2,7 @@
 
 from __future__ import annotations
 
+import contextlib
 import os
 import re
 import shlex
@@ -11,6 +12,7 @@ import struct
 import subprocess
 from dataclasses import dataclass
 from pathlib import Path
+from typing import Iterator
 
 from uvt.conversation import Fault
 from uvt.notes import signal_name
@@ -104,6 +106,18 @@ class Keep:
         return {"UVT_KEEP": str(self.windows)} | ({"UVT_LATE": str(self.late)} if self.late else {})
 
 
+@contextlib.contextmanager
+def in_front_of(program: subprocess.Popen[bytes]) -> Iterator[None]:
+    """An interrupt at the terminal is for the program meanwhile; what ends this tool ends the program, and its log is taken."""
+    before = {signal.SIGINT: signal.signal(signal.SIGINT, lambda *_: None)}
+    before |= {it: signal.signal(it, lambda *_: program.terminate()) for it in (signal.SIGTERM, signal.SIGHUP)}
+    try:
+        yield
+    finally:
+        for number, handler in before.items():
+            signal.signal(number, handler)
+
+
 def run_program(words: list[str], prefix: Path, bare: bool, keep: Keep | None = None) -> tuple[int, int]:
     """Runs it with the recorder, which writes PREFIX.PID.log. Answers its process and its status."""
     # (a ring stays beside the program, which may go on without this tool)
@@ -113,16 +127,8 @@ def run_program(words: list[str], prefix: Path, bare: bool, keep: Keep | None = 
         program = subprocess.Popen(words, env=environment if bare else with_hooks(environment))
     except OSError as fault:
         raise Fault(why_not(words[0], fault)) from None
-    # (an interrupt at the terminal is for the program; what ends this tool ends the program, and its log is taken)
-    before = {
-        signal.SIGINT: signal.signal(signal.SIGINT, lambda *_: None),
-        **{it: signal.signal(it, lambda *_: program.terminate()) for it in (signal.SIGTERM, signal.SIGHUP)},
-    }
-    try:
+    with in_front_of(program):
         return program.pid, program.wait()
-    finally:
-        for number, handler in before.items():
-            signal.signal(number, handler)
 
 
 def name_for(words: list[str]) -> str:

@@ -26,7 +26,7 @@ NAMES = ORDER.split(" ")
 NONE = (1 << 64) - 1
 # (the system's own number of a call that has to be made again: -ERESTARTSYS and its like)
 STEP_AND_DIRECTION = 0x500
-INSTRUCTION, LENGTH = b"\x0f\x05", 2
+LENGTH = 2
 # What a thread that calls something has blocked: all, except for what its own instructions raise, and glibc's own two.
 LET = (signal.SIGTRAP, signal.SIGSEGV, signal.SIGBUS, signal.SIGILL, signal.SIGFPE, 32, 33)
 BLOCKED = ((1 << 64) - 1) & ~sum(1 << (it - 1) for it in LET)
@@ -135,15 +135,13 @@ class Thread:
 
     def leave(self) -> None:
         """It isn't traced any more."""
-        try:
+        with contextlib.suppress(Gone, ProcessLookupError):
             if not self.stopped:
                 self.interrupt()
                 self.looked(True)
             if self.policy is not None:
                 os.sched_setscheduler(self.number, self.policy, os.sched_param(0))
             ptrace(DETACH, self.number, 0, self.signal)
-        except (Gone, ProcessLookupError):
-            pass
 
     # ---- registers
 
@@ -201,12 +199,10 @@ class Borrowed:
         return self
 
     def __exit__(self, *_: object) -> None:
-        try:
+        with contextlib.suppress(Gone):
             self.thread.set_registers(self.kept)
             self.thread.vectors(self.vectors)
             self.thread.mask(self.mask)
-        except Gone:
-            pass
 
     def of_system(self, number: int, *words: int) -> int:
         """A call of the system, by the instruction at which it stands."""
