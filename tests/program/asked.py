@@ -1,8 +1,9 @@
 """What readers ask is answered in one hop: each row of the table at the head of docs/ARCHITECTURE.md leads to a place that is there.
 
 A link leads to a heading of a page. A path in backticks is a file of the repository, where it begins with a crate's name below crates/; the
-names behind it, after a colon, stand in that file. Each module of the tests is named there, and each file that a page names is there. PROVED
-has bullets that can be read and the kit's version, and one place has the number of minutes of a build.
+names behind it, after a colon, stand in that file. Each module of the tests is named there, and each file that a page names is there. The
+recipe of an op counts its files. PROVED has bullets that can be read and the kit's version, and one place has the number of minutes of a
+build.
 """
 
 from __future__ import annotations
@@ -70,6 +71,13 @@ def try_modules(check: Check, root: Path, text: str) -> None:
     check("the modules of the tests", named == there, f"only on the page, or only there: {sorted(map(str, named ^ there))}")
 
 
+def try_recipe(check: Check, text: str) -> None:
+    """The recipe of an op says how many files it names."""
+    recipe = re.split(r"\n### ", text[text.index("### An op\n") :])[0]
+    said, named = re.search(r"name (\d+) files", recipe), set(re.findall(r"`([\w/]+\.(?:antt|rt))`", recipe))
+    check("the files of a new op", said and int(said[1]) == len(named), f"they are {len(named)}")
+
+
 def try_kit(check: Check, text: str) -> None:
     """PROVED has the version of the kit, where there is one here."""
     if shutil.which("rt"):
@@ -82,6 +90,7 @@ def try_asked(check: Check, folder: str) -> None:
     architecture = (docs / "ARCHITECTURE.md").read_text(encoding="utf-8")
     try_paths(check, docs.parent)
     try_modules(check, docs.parent, architecture)
+    try_recipe(check, architecture)
     asked = rows(architecture)
     for question, answer in asked:
         lost = wrong(docs, answer)

@@ -1,12 +1,13 @@
 -- A change that keeps every count: a step from the changed state is the changed step.
-use Rattle.uv_alike.proofs.Names.{◌≡◌, ◌∙◌, refl, ap, ap₂, Option, Some, Var, State, Program, Named, named, with_named, counted, count_of, Body, Run, Running, Seen, Event, Callback, Moves}
+use Rattle.uv_alike.proofs.Names.{◌≡◌, ◌∙◌, refl, ap, ap₂, Option, Some, Var, State, Program, Named, named, with_named, counted, count_of, Body, Run, Running, Seen, Event, Loop, Callback, Moves}
 use Rattle.uv_model.specs.Next as steps
-use Rattle.uv_model.specs.Next.{Next, next}
+use Rattle.uv_model.specs.Next.{next}
 use Rattle.uv_alike.specs.Changed.{Change, Comes, changed, changed_run, changed_line, changed_event, changed_next}
-use Rattle.uv_alike.specs.Hides.{Hides, SeesAlike, IsExact}
-use Rattle.uv_alike.proofs.Walk.{next_alike}
+use Rattle.uv_alike.specs.Hides.{Hides, IsWhole, SeesAlike, IsExact}
+use Rattle.uv_alike.proofs.Ops.{Reads}
+use Rattle.uv_alike.proofs.Walk.{loop_alike, next_alike}
 
-module _ (c : Change) (p : Program) (s : State) (hides : Hides c p s) (exact : IsExact c p s) where
+module _ (c : Change) (p : Program) (s : State) (exact : IsExact c p s) (hides : Hides c p s) where
   calls_exact : (u : State) (run : Run) (kind : Callback) (v : Var) (line : Seen) → u.names ≡ s.names →
       steps.calls p (changed c u) (changed_run c run) kind (c.var v) (changed_line c p line) ≡ changed_next c p (steps.calls p u run kind v line)
   calls_exact u run kind v line same =
@@ -28,5 +29,10 @@ module _ (c : Change) (p : Program) (s : State) (hides : Hides c p s) (exact : I
         (ap (λ n. steps.body_from p kind (c.var v) n number) (exact.count call) ∙ exact.body kind v call number);
   }
 
-  pub next_exact : (e : Event) → Comes c s e → next p (changed c s) (changed_event c e) ≡ changed_next c p (next p s e)
-  next_exact e can = next_alike c p s hides (λ x. x) (changed_next c p) sees e can
+  -- where the change is whole
+  pub next_exact : IsWhole c p s → (e : Event) → Comes c s e → next p (changed c s) (changed_event c e) ≡ changed_next c p (next p s e)
+  next_exact whole e can = next_alike c p s hides whole (λ x. x) (changed_next c p) sees e can
+
+  -- the loop's own step, where it reads only what it has to
+  pub loop_exact : Reads c p s → next p (changed c s) Loop ≡ changed_next c p (next p s Loop)
+  loop_exact reads = loop_alike c p s hides reads (λ x. x) (changed_next c p) sees

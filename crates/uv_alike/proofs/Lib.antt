@@ -1,7 +1,9 @@
 mod Names
 pub mod Cases
-mod Ops
+pub mod Ops
 pub mod Walk
 pub mod Same
 pub mod Exact
 pub mod Mapped
+pub mod Kept
+pub mod Walked

@@ -1,6 +1,6 @@
 -- What the parts of a step are from a changed state: who is found, what is put, timers, names, and each op.
-use Rattle.uv_alike.proofs.Names.{◌≡◌, ◌++◌, ℕ, ◌+◌, ◌==◌, ◌&&◌, List, [], ◌∷◌, drop, Bool, true, false, Option, Some, None, Result, Ok, Err, refl, ap, ap₂, sym, ◌∙◌, arith, nat_le, if◌then◌else◌, list_any, Id, Due, due_cmp, match_ordering, Ordering, Less, Equal, Greater, Var, Kind, Code, Slots, Content, State, Program, HandleRecord, Request, Outcome, Task, WatcherKind, Op, same_id, without_id, handle, request, handle_in, request_in, held, front, front_request, with_id, with_held, with_handle, with_request, named, live, live_handle, live_request, live_id, as_handle, as_request, with_timer, without_timer, taken_off, stopped, started, restarted, begun_at, found_or, is_async, inited, activated, repeating, referenced_as, watcher_kind, no_refusal, timer_refusal, start_timer_refusal, start_watcher_refusal, stop_refusal, again_refusal, close_refusal, send_refusal, with_first, with_last, queued, next_free, taken, with_watched, watched, refreshed, refuses, do_op}
-use Rattle.std.specs.Prelude.{◌||◌, ◌-◌, map, option_map, min}
+use Rattle.uv_alike.proofs.Names.{if◌then◌else◌, ◌≡◌, ◌++◌, ℕ, ◌+◌, ◌==◌, ◌&&◌, List, [], ◌∷◌, drop, Bool, true, false, Option, Some, None, Result, Ok, Err, refl, ap, ap₂, sym, ◌∙◌, arith, nat_le, list_any, Id, Due, due_cmp, match_ordering, Ordering, Less, Equal, Greater, Var, Kind, Code, Slots, Content, State, Program, HandleRecord, Request, Outcome, Task, WatcherKind, Op, same_id, without_id, handle, request, handle_in, request_in, held, front, front_request, with_id, with_held, with_handle, with_request, named, live, live_handle, live_request, live_id, as_handle, as_request, with_timer, without_timer, taken_off, stopped, started, restarted, begun_at, found_or, is_async, inited, activated, repeating, referenced_as, watcher_kind, no_refusal, timer_refusal, start_timer_refusal, start_watcher_refusal, stop_refusal, again_refusal, close_refusal, send_refusal, with_first, with_last, queued, next_free, taken, freed, arena_size, with_watched, watched, refreshed, refuses, do_op}
+use Rattle.std.specs.Prelude.{◌||◌, ◌-◌, map, option_map, is_some, min}
 use Rattle.std.specs.BTreeMap.{is_at}
 use Rattle.std.proofs.lemmas.List.{drop-map, map-append, set-set}
 use Rattle.uv_ids.specs.declared.phase.Mode.{Mode}
@@ -27,7 +27,8 @@ use Rattle.uv_model.specs.Next as steps
 use Rattle.uv_model.specs.Next.{first_due, collected}
 use Rattle.uv_alike.proofs.Cases.{if_shift}
 use Rattle.uv_alike.specs.Changed.{Change, changed, changed_handle, changed_request, changed_content, changed_entry, changed_pair, changed_job, changed_live, changed_arena, changed_walk, changed_op, changed_answer}
-use Rattle.uv_alike.specs.Hides.{Hides}
+use Rattle.uv_alike.specs.Asks.{cancels, cancels_op, place_asks_done, reads_clock, op_reads_clock}
+use Rattle.uv_alike.specs.Hides.{Hides, IsWhole}
 
 -- ---- what is found, and found changed
 
@@ -59,7 +60,7 @@ held_as_handle : (s : State) (o : Option Id) (t : Id × HandleRecord) → as_han
 held_as_handle s o t e = grind arith
 
 -- a live handle is held
-live_held : (s : State) (v : Var) (t : Id × HandleRecord) → live_handle s v ≡ Ok t → handle s t.0 ≡ Some t.1
+pub live_held : (s : State) (v : Var) (t : Id × HandleRecord) → live_handle s v ≡ Ok t → handle s t.0 ≡ Some t.1
 live_held s v t e = held_as_handle s (named s v).id t e
 
 pub request_held : (s : State) (ids : List Id) (t : Id × Request) → front_request s ids ≡ Some t → request s t.0 ≡ Some t.1
@@ -90,6 +91,48 @@ module _ (c : Change) where
   abbrev pub found_request : {E : Type 0} → Result (Id × Request) E → Result (Id × Request) E
   found_request (Ok t) = Ok (changed_job c t)
   found_request (Err why) = Err why
+
+  -- ---- what a step may ask
+
+  abbrev done_changed : Option Op → ops.Done → ops.Done
+  done_changed o x = record { state = changed c x.state; answer = changed_answer c x.answer o }
+
+  abbrev coded_changed : Coded → Coded
+  coded_changed x = record { state = changed c x.state; code = x.code }
+
+  -- what stands in the slot of an id may be turned into another handle
+  abbrev pub Puts : State → Id → Type 0
+  Puts u id = (x : Content) → with_held (c.slots u.arena.slots) (c.id id) (changed_content c x) ≡ c.slots (with_held u.arena.slots id x)
+
+  -- the slot of an id may be freed
+  abbrev pub Frees : Program → State → Id → Type 0
+  Frees p u id = freed (arena_size p).last_generation (c.id id) (changed_arena c u.arena)
+      ≡ changed_arena c (freed (arena_size p).last_generation id u.arena)
+
+  -- a cancel goes as it does; so does what reads the clock, and what asks who is done
+  abbrev pub Cancels : State → Type 0
+  Cancels s = (o : Option Op) (v : Var) → ops.cancel (changed c s) (live_request (changed c s) (c.var v))
+      ≡ done_changed o (ops.cancel s (live_request s v))
+
+  abbrev pub Clocks : State → Type 0
+  Clocks s = (c.clock s.clock ≡ c.time s.clock) × ((n : ℕ) → nat_le (c.time n) (c.clock s.clock) ≡ nat_le n s.clock)
+
+  abbrev pub AreDone : State → Type 0
+  AreDone s = (c.ends [] ≡ []) × (c.ends s.done.list ≡ map c.id s.done.list)
+
+  -- what the loop's next own step reads and writes, and asks only where it has to
+  pub record Reads (p : Program) (s : State) : Type 0 where
+    pub handles : (id : Id) → handle (changed c s) (c.id id) ≡ option_map (changed_handle c) (handle s id)
+    pub puts : (id : Id) (h : HandleRecord) → handle s id ≡ Some h → Puts s id
+    pub frees : (id : Id) (h : HandleRecord) → handle s id ≡ Some h → Frees p s id
+    pub found : front_request (changed c s) (map c.id s.done.yet) ≡ option_map (changed_job c) (front_request s s.done.yet)
+    pub collects : (t : Id × Request) → front_request s s.done.yet ≡ Some t → Frees p s t.0
+    pub lives : (v : Var) → live_handle (changed c s) (c.var v) ≡ found_handle (live_handle s v)
+    pub is_live : (v : Var) → is_some (live (changed c s) (c.var v)) ≡ is_some (live s v)
+    pub queues : (id : Id) → c.waits (s.waiting ++ id ∷ []) ≡ c.waits s.waiting ++ c.id id ∷ []
+    pub cancelled : cancels p s ≡ true → Cancels s
+    pub clocks : reads_clock p s ≡ true → Clocks s
+    pub done : place_asks_done s.place ≡ true → AreDone s
 
   -- ---- lists of ids, and the order of timers
 
@@ -148,21 +191,6 @@ module _ (c : Change) where
 
     -- ---- a handle is put, and a timer stopped and started
 
-    -- what stands in the slot of an id may be turned into another handle
-    abbrev Puts : State → Id → Type 0
-    Puts u id = (x : Content) → with_held (c.slots u.arena.slots) (c.id id) (changed_content c x) ≡ c.slots (with_held u.arena.slots id x)
-
-    pub handle_puts : (id : Id) (h : HandleRecord) → handle s id ≡ Some h → Puts s id
-    handle_puts id h is = holds_handle (held s.arena.slots id) h is (λ e x. hides.turns id (content.Handle h) x e)
-
-    pub request_puts : (id : Id) (r : Request) → request s id ≡ Some r → Puts s id
-    request_puts id r is = holds_request (held s.arena.slots id) r is (λ e x. hides.turns id (content.Request r) x e)
-
-    request_put : (u : State) (id : Id) (r : Request) → Puts u id → with_request (changed c u) (c.id id) (changed_request c r)
-        ≡ changed c (with_request u id r)
-    request_put u id r puts =
-        ap (λ slots. record (changed c u) { arena = record (changed_arena c u.arena) { slots = slots } }) (puts (content.Request r))
-
     pub put_changed : (u : State) (id : Id) (h : HandleRecord) → Puts u id → with_handle (changed c u) (c.id id) (changed_handle c h)
         ≡ changed c (with_handle u id h)
     put_changed u id h puts =
@@ -220,58 +248,6 @@ module _ (c : Change) where
     with_id_changed id None = refl
     with_id_changed id (Some h) = refl
 
-    handle_of : (o : Option Content) → handle_in (option_map (changed_content c) o) ≡ option_map (changed_handle c) (handle_in o)
-    handle_of o = grind arith
-
-    request_of : (o : Option Content) → request_in (option_map (changed_content c) o) ≡ option_map (changed_request c) (request_in o)
-    request_of o = grind arith
-
-    handle_changed : (id : Id) → handle (changed c s) (c.id id) ≡ option_map (changed_handle c) (handle s id)
-    handle_changed id = ap handle_in (hides.holds id) ∙ handle_of (held s.arena.slots id)
-
-    pub request_changed : (id : Id) → request (changed c s) (c.id id) ≡ option_map (changed_request c) (request s id)
-    request_changed id = ap request_in (hides.holds id) ∙ request_of (held s.arena.slots id)
-
-    pub with_job : (id : Id) (o : Option Request) → with_id (c.id id) (option_map (changed_request c) o) ≡ option_map (changed_job c) (with_id id o)
-    with_job id None = refl
-    with_job id (Some r) = refl
-
-    pub front_request_changed : (ids : List Id) → front_request (changed c s) (map c.id ids) ≡ option_map (changed_job c) (front_request s ids)
-    front_request_changed [] = refl
-    front_request_changed (id ∷ ids) = ap (with_id (c.id id)) (request_changed id) ∙ with_job id (request s id)
-
-    pub front_changed : (ids : List Id) → front (changed c s) (map c.id ids) ≡ option_map (changed_pair c) (front s ids)
-    front_changed [] = refl
-    front_changed (id ∷ ids) = ap (with_id (c.id id)) (handle_changed id) ∙ with_id_changed id (handle s id)
-
-    pub first_due_changed : (ts : List (Due × Id)) → first_due (changed c s) (map (changed_entry c) ts) ≡ option_map (changed_pair c) (first_due s ts)
-    first_due_changed [] = refl
-    first_due_changed (t ∷ ts) = if_shift (option_map (changed_pair c)) (nat_le t.0.at s.time) (nat_le (c.due t.0).at (c.time s.time)) _ _ _ _
-        (hides.passed t.0) (ap (with_id (c.id t.1)) (handle_changed t.1) ∙ with_id_changed t.1 (handle s t.1)) refl
-
-    -- ---- names
-
-    live_handle_of : (x : Option (Id × Content)) → as_handle (option_map (changed_live c) x) ≡ found_handle (as_handle x)
-    live_handle_of None = refl
-    live_handle_of (Some (id, content.Handle h)) = refl
-    live_handle_of (Some (id, content.Request r)) = refl
-
-    live_request_of : (x : Option (Id × Content)) → as_request (option_map (changed_live c) x) ≡ found_request (as_request x)
-    live_request_of None = refl
-    live_request_of (Some (id, content.Handle h)) = refl
-    live_request_of (Some (id, content.Request r)) = refl
-
-    pub live_handle_changed : (v : Var) → live_handle (changed c s) (c.var v) ≡ found_handle (live_handle s v)
-    live_handle_changed v = ap as_handle (hides.lives v) ∙ live_handle_of (live s v)
-
-    live_request_changed : (v : Var) → live_request (changed c s) (c.var v) ≡ found_request (live_request s v)
-    live_request_changed v = ap as_request (hides.lives v) ∙ live_request_of (live s v)
-
-    request_live : (v : Var) (t : Id × Request) → live_request s v ≡ Ok t → request s t.0 ≡ Some t.1
-    request_live v t e = by (named s v).id t e where
-      by : (o : Option Id) (t : Id × Request) → as_request (live_id s o) ≡ Ok t → request s t.0 ≡ Some t.1
-      by o t e = grind arith
-
     -- ---- what is asked of all slots and of the timers
 
     closes : has_closing (changed c s) ≡ has_closing s
@@ -282,9 +258,6 @@ module _ (c : Change) where
 
     pub alive : is_alive (changed c s) ≡ is_alive s
     alive = ap₂ (λ a b. a || b) hides.keeps closes
-
-    pub woken : steps.is_woken (changed c s) ≡ steps.is_woken s
-    woken = ap₂ (λ a b. a || b) (some_changed s.done.list) hides.pends
 
     until_changed : (ts : List (Due × Id)) → until_first (c.time s.time) (map (changed_entry c) ts) ≡ until_first s.time ts
     until_changed [] = refl
@@ -307,240 +280,335 @@ module _ (c : Change) where
     deadline_changed None = refl
     deadline_changed (Some n) = ap Some (hides.waits n)
 
-    pub passed_changed : (o : Option ℕ) → has_passed (c.clock s.clock) (option_map c.time o) ≡ has_passed s.clock o
-    passed_changed None = refl
-    passed_changed (Some n) = hides.over n
+    pub woken : AreDone s → steps.is_woken (changed c s) ≡ steps.is_woken s
+    woken done = ap₂ (λ a b. a || b) (ap has_some done.1 ∙ some_changed s.done.list) hides.pends
 
-    pub refreshed_changed : refreshed (changed c s) ≡ changed c (refreshed s)
-    refreshed_changed = ap (λ n. record (changed c s) { time = n }) hides.clocks
+    pub passed_changed : Clocks s → (o : Option ℕ) → has_passed (c.clock s.clock) (option_map c.time o) ≡ has_passed s.clock o
+    passed_changed clocks None = refl
+    passed_changed clocks (Some n) = clocks.1 n
 
-    -- ---- ops
+    pub refreshed_changed : Clocks s → refreshed (changed c s) ≡ changed c (refreshed s)
+    refreshed_changed clocks = ap (λ n. record (changed c s) { time = n }) clocks.0
 
-    abbrev done_changed : Option Op → ops.Done → ops.Done
-    done_changed o x = record { state = changed c x.state; answer = changed_answer c x.answer o }
+    -- ---- where the change is whole
 
-    abbrev coded_changed : Coded → Coded
-    coded_changed x = record { state = changed c x.state; code = x.code }
+    module _ (whole : IsWhole c p s) where
+      one_more : (f : List Id → List Id) → ((ids : List Id) → f ids ≡ map c.id ids) → (ids : List Id) (id : Id) →
+          f (ids ++ id ∷ []) ≡ f ids ++ c.id id ∷ []
+      one_more f same ids id = same (ids ++ id ∷ []) ∙ map-append c.id ids (id ∷ []) ∙ ap (λ xs. xs ++ c.id id ∷ []) (sym (same ids))
 
-    by_handle : (o : Option Op) (t : Result (Id × HandleRecord) Code) (why : HandleRecord → Option Code) (f f' : Id → HandleRecord → ops.Done) →
-        ((h : HandleRecord) → why (changed_handle c h) ≡ why h) →
-        ((u : Id × HandleRecord) → t ≡ Ok u → why u.1 ≡ None → f' (c.id u.0) (changed_handle c u.1) ≡ done_changed o (f u.0 u.1)) →
-        ops.on_handle (changed c s) (found_handle t) why f' ≡ done_changed o (ops.on_handle s t why f)
-    by_handle o (Err code) why f f' same each = refl
-    by_handle o (Ok u) why f f' same each =
-        ap (λ w. found_or w (refuses (changed c s)) (f' (c.id u.0) (changed_handle c u.1))) (same u.1) ∙ by (why u.1) (each u refl) where
-          by : (w : Option Code) → (w ≡ None → f' (c.id u.0) (changed_handle c u.1) ≡ done_changed o (f u.0 u.1)) →
-              found_or w (refuses (changed c s)) (f' (c.id u.0) (changed_handle c u.1)) ≡ done_changed o (found_or w (refuses s) (f u.0 u.1))
-          by None k = k refl
-          by (Some code) k = refl
+      pub request_puts : (id : Id) (r : Request) → request s id ≡ Some r → Puts s id
+      request_puts id r is = holds_request (held s.arena.slots id) r is (λ e x. whole.turns id (content.Request r) x e)
 
-    on_handle_changed : (o : Option Op) (v : Var) (why : HandleRecord → Option Code) (f f' : Id → HandleRecord → ops.Done) →
-        ((h : HandleRecord) → why (changed_handle c h) ≡ why h) →
-        ((id : Id) (h : HandleRecord) → handle s id ≡ Some h → why h ≡ None → f' (c.id id) (changed_handle c h) ≡ done_changed o (f id h)) →
-        ops.on_handle (changed c s) (live_handle (changed c s) (c.var v)) why f' ≡ done_changed o (ops.on_handle s (live_handle s v) why f)
-    on_handle_changed o v why f f' same each =
-        ap (λ t. ops.on_handle (changed c s) t why f') (live_handle_changed v)
-        ∙ by_handle o (live_handle s v) why f f' same (λ u e w. each u.0 u.1 (live_held s v u e) w)
+      request_put : (u : State) (id : Id) (r : Request) → Puts u id → with_request (changed c u) (c.id id) (changed_request c r)
+          ≡ changed c (with_request u id r)
+      request_put u id r puts =
+          ap (λ slots. record (changed c u) { arena = record (changed_arena c u.arena) { slots = slots } }) (puts (content.Request r))
 
-    -- what is made
-    by_free : (o : Option Op) (y : Option Id) (made made' : Id → State) → ((id : Id) → y ≡ Some id → made' (c.id id) ≡ changed c (made id)) →
-        found_or (option_map c.id y) (λ id. record { state = made' id; answer = answer.Id id }) (refuses (changed c s) Efull)
-        ≡ done_changed o (found_or y (λ id. record { state = made id; answer = answer.Id id }) (refuses s Efull))
-    by_free o None made made' each = refl
-    by_free o (Some id) made made' each = ap (λ (x : State). record { state = x; answer = answer.Id (c.id id) }) (each id refl)
+      handle_of : (o : Option Content) → handle_in (option_map (changed_content c) o) ≡ option_map (changed_handle c) (handle_in o)
+      handle_of o = grind arith
 
-    by_live : (o : Option Op) (x : Option (Id × Content)) (made made' : Id → State) →
-        ((id : Id) → next_free s.arena ≡ Some id → made' (c.id id) ≡ changed c (made id)) →
-        ops.make (changed c s) (option_map (changed_live c) x) made' ≡ done_changed o (ops.make s x made)
-    by_live o (Some t) made made' each = refl
-    by_live o None made made' each =
-        ap (λ (x : Option Id). found_or x (λ id. record { state = made' id; answer = answer.Id id }) (refuses (changed c s) Efull)) hides.finds
-        ∙ by_free o (next_free s.arena) made made' each
+      request_of : (o : Option Content) → request_in (option_map (changed_content c) o) ≡ option_map (changed_request c) (request_in o)
+      request_of o = grind arith
 
-    make_changed : (o : Option Op) (v : Var) (made made' : Id → State) →
-        ((id : Id) → next_free s.arena ≡ Some id → made' (c.id id) ≡ changed c (made id)) →
-        ops.make (changed c s) (live (changed c s) (c.var v)) made' ≡ done_changed o (ops.make s (live s v) made)
-    make_changed o v made made' each = ap (λ x. ops.make (changed c s) x made') (hides.lives v) ∙ by_live o (live s v) made made' each
+      handle_changed : (id : Id) → handle (changed c s) (c.id id) ≡ option_map (changed_handle c) (handle s id)
+      handle_changed id = ap handle_in (whole.holds id) ∙ handle_of (held s.arena.slots id)
 
-    -- a state with the names of this one
-    bound_changed : (u : State) (v : Var) (id : Id) → u.names ≡ s.names → next_free s.arena ≡ Some id →
-        ops.bound_to (changed c u) (c.var v) (c.id id) ≡ changed c (ops.bound_to u v id)
-    bound_changed u v id same e = rw same (ap (λ ns. record (changed c u) { names = ns }) (hides.binds v id e))
+      pub request_changed : (id : Id) → request (changed c s) (c.id id) ≡ option_map (changed_request c) (request s id)
+      request_changed id = ap request_in (whole.holds id) ∙ request_of (held s.arena.slots id)
 
-    inited_changed : (v : Var) (k : Kind) → content.Handle (inited (c.var v) k) ≡ changed_content c (content.Handle (inited v k))
-    inited_changed v k = ap (λ due. content.Handle (record (inited (c.var v) k) { due = due })) (sym (hides.rests (is_async k) k _ (by k))) where
-      by : (k : Kind) → is_async k && is_timer k ≡ false
-      by k = grind arith
+      pub with_job : (id : Id) (o : Option Request) → with_id (c.id id) (option_map (changed_request c) o) ≡ option_map (changed_job c) (with_id id o)
+      with_job id None = refl
+      with_job id (Some r) = refl
 
-    listed_changed : (u : State) (k : Kind) (id : Id) → ops.listed_last (changed c u) k (c.id id) ≡ changed c (ops.listed_last u k id)
-    listed_changed u k id = if_shift (changed c) (is_async k) (is_async k) _ u _ (changed c u) refl (search map-append) refl
+      pub front_request_changed : (ids : List Id) → front_request (changed c s) (map c.id ids) ≡ option_map (changed_job c) (front_request s ids)
+      front_request_changed [] = refl
+      front_request_changed (id ∷ ids) = ap (with_id (c.id id)) (request_changed id) ∙ with_job id (request s id)
 
-    new_changed : (v : Var) (k : Kind) (id : Id) → next_free s.arena ≡ Some id →
-        ops.with_new (changed c s) (c.var v) k (c.id id) ≡ changed c (ops.with_new s v k id)
-    new_changed v k id e =
-        let x = content.Handle (inited v k) in
-        let u = record s { arena = taken id x s.arena } in
-        ap (λ (y : Content). ops.bound_to
-        (ops.listed_last (record (changed c s) { arena = taken (c.id id) y (changed_arena c s.arena) }) k (c.id id)) (c.var v) (c.id id))
-        (inited_changed v k)
-        ∙ ap (λ (a : Slots Content). ops.bound_to (ops.listed_last (record (changed c s) { arena = a }) k (c.id id)) (c.var v) (c.id id))
-        (hides.takes id x e)
-        ∙ ap (λ (t : State). ops.bound_to t (c.var v) (c.id id)) (listed_changed u k id)
-        ∙ bound_changed (ops.listed_last u k id) v id (by (is_async k) u) e
-      where
-        by : (b : Bool) (u : State) → (if b then with_watched u watcher.Async (with_last (watched u watcher.Async) id) else u).names ≡ u.names
-        by true u = refl
-        by false u = refl
+      live_handle_of : (x : Option (Id × Content)) → as_handle (option_map (changed_live c) x) ≡ found_handle (as_handle x)
+      live_handle_of None = refl
+      live_handle_of (Some (id, content.Handle h)) = refl
+      live_handle_of (Some (id, content.Request r)) = refl
 
-    queued_changed : (v : Var) (task : Task) (id : Id) → next_free s.arena ≡ Some id →
-        ops.with_queued (changed c s) (c.var v) task (c.id id) ≡ changed c (ops.with_queued s v task id)
-    queued_changed v task id e =
-        let x = content.Request (queued v task) in
-        ap₂ (λ (a : Slots Content) (ids : List Id). ops.bound_to (record (changed c s) { arena = a; waiting = ids }) (c.var v) (c.id id))
-        (hides.takes id x e) (sym (map-append c.id s.waiting (id ∷ [])))
-        ∙ bound_changed (record s { arena = taken id x s.arena; waiting = s.waiting ++ id ∷ [] }) v id refl e
+      live_request_of : (x : Option (Id × Content)) → as_request (option_map (changed_live c) x) ≡ found_request (as_request x)
+      live_request_of None = refl
+      live_request_of (Some (id, content.Handle h)) = refl
+      live_request_of (Some (id, content.Request r)) = refl
 
-    -- requests and sends
-    on_list_changed : (id : Id) (ids : List Id) → list_any (same_id (c.id id)) (map c.id ids) ≡ list_any (same_id id) ids
-    on_list_changed id [] = refl
-    on_list_changed id (x ∷ xs) = ap₂ (λ a b. a || b) (hides.same id x) (on_list_changed id xs)
+      pub live_handle_changed : (v : Var) → live_handle (changed c s) (c.var v) ≡ found_handle (live_handle s v)
+      live_handle_changed v = ap as_handle (whole.lives v) ∙ live_handle_of (live s v)
 
-    pub ended_changed : (u : State) (id : Id) (r : Request) (outcome : Outcome) → Puts u id →
-        ops.ended (changed c u) (c.id id) (changed_request c r) outcome ≡ changed c (ops.ended u id r outcome)
-    ended_changed u id r outcome puts =
-        ap (λ (ids : List Id). with_request (record (changed c u) { done = record (changed_walk c u.done) { list = ids } }) (c.id id)
-        (record (changed_request c r) { outcome = outcome })) (sym (map-append c.id u.done.list (id ∷ [])))
-        ∙ request_put (record u { done = with_last u.done id }) id (record r { outcome = outcome }) puts
+      live_request_changed : (v : Var) → live_request (changed c s) (c.var v) ≡ found_request (live_request s v)
+      live_request_changed v = ap as_request (whole.lives v) ∙ live_request_of (live s v)
 
-    cancelled_changed : (id : Id) (r : Request) → Puts s id → ops.cancelled (changed c s) (c.id id) (changed_request c r)
-        ≡ changed c (ops.cancelled s id r)
-    cancelled_changed id r puts =
-        ap (λ (ids : List Id). ops.ended (record (changed c s) { waiting = ids }) (c.id id) (changed_request c r) Cancelled)
-        (without_changed s.waiting id)
-        ∙ ended_changed (record s { waiting = without_id s.waiting id }) id r Cancelled puts
+      request_live : (v : Var) (t : Id × Request) → live_request s v ≡ Ok t → request s t.0 ≡ Some t.1
+      request_live v t e = by (named s v).id t e where
+        by : (o : Option Id) (t : Id × Request) → as_request (live_id s o) ≡ Ok t → request s t.0 ≡ Some t.1
+        by o t e = grind arith
 
-    by_cancel : (o : Option Op) (t : Result (Id × Request) Code) → ((u : Id × Request) → t ≡ Ok u → request s u.0 ≡ Some u.1) →
-        ops.cancel (changed c s) (found_request t) ≡ done_changed o (ops.cancel s t)
-    by_cancel o (Err code) is = refl
-    by_cancel o (Ok t) is = if_shift (done_changed o) (list_any (same_id t.0) s.waiting) (list_any (same_id (c.id t.0)) (map c.id s.waiting)) _ _ _ _
-        (on_list_changed t.0 s.waiting)
-        (ap (λ (x : State). record { state = x; answer = answer.Cancelled (c.id t.0) })
-        (cancelled_changed t.0 t.1 (request_puts t.0 t.1 (is t refl))))
-        refl
+      -- requests and sends
+      on_list_changed : (id : Id) (ids : List Id) → list_any (same_id (c.id id)) (map c.id ids) ≡ list_any (same_id id) ids
+      on_list_changed id [] = refl
+      on_list_changed id (x ∷ xs) = ap₂ (λ a b. a || b) (hides.same id x) (on_list_changed id xs)
 
-    pub cancel_changed : (o : Option Op) (v : Var) →
-        ops.cancel (changed c s) (live_request (changed c s) (c.var v)) ≡ done_changed o (ops.cancel s (live_request s v))
-    cancel_changed o v = ap (ops.cancel (changed c s)) (live_request_changed v) ∙ by_cancel o (live_request s v) (request_live v)
+      pub ended_changed : (u : State) (id : Id) (r : Request) (outcome : Outcome) → Puts u id →
+          ops.ended (changed c u) (c.id id) (changed_request c r) outcome ≡ changed c (ops.ended u id r outcome)
+      ended_changed u id r outcome puts =
+          ap (λ (ids : List Id). with_request (record (changed c u) { done = record (changed c u).done { list = ids } }) (c.id id)
+          (record (changed_request c r) { outcome = outcome })) (sym (one_more c.ends whole.ended u.done.list id))
+          ∙ request_put (record u { done = with_last u.done id }) id (record r { outcome = outcome }) puts
 
-    by_send : (w : Option Code) (id : Id) (h : HandleRecord) → Puts s id →
-        found_or w (λ code. record { state = changed c s; code = code })
-        (record { state = with_handle (changed c s) (c.id id) (changed_handle c (records.sent h)); code = Success })
-        ≡ coded_changed (found_or w (λ code. record { state = s; code = code })
-        (record { state = with_handle s id (records.sent h); code = Success }))
-    by_send None id h puts = ap (λ (x : State). record { state = x; code = Success }) (put_changed s id (records.sent h) puts)
-    by_send (Some code) id h puts = refl
+      cancelled_changed : (id : Id) (r : Request) → Puts s id → ops.cancelled (changed c s) (c.id id) (changed_request c r)
+          ≡ changed c (ops.cancelled s id r)
+      cancelled_changed id r puts =
+          ap (λ (ids : List Id). ops.ended (record (changed c s) { waiting = ids }) (c.id id) (changed_request c r) Cancelled)
+          (ap (λ ids. without_id ids (c.id id)) (whole.queued s.waiting) ∙ without_changed s.waiting id
+          ∙ sym (whole.queued (without_id s.waiting id)))
+          ∙ ended_changed (record s { waiting = without_id s.waiting id }) id r Cancelled puts
 
-    by_sent : (t : Result (Id × HandleRecord) Code) → ((u : Id × HandleRecord) → t ≡ Ok u → handle s u.0 ≡ Some u.1) →
-        ops.send (changed c s) (found_handle t) ≡ coded_changed (ops.send s t)
-    by_sent (Err code) is = refl
-    by_sent (Ok t) is = by_send (send_refusal t.1) t.0 t.1 (handle_puts t.0 t.1 (is t refl))
+      by_cancel : (o : Option Op) (t : Result (Id × Request) Code) → ((u : Id × Request) → t ≡ Ok u → request s u.0 ≡ Some u.1) →
+          ops.cancel (changed c s) (found_request t) ≡ done_changed o (ops.cancel s t)
+      by_cancel o (Err code) is = refl
+      by_cancel o (Ok t) is = if_shift (done_changed o) (list_any (same_id t.0) s.waiting) (list_any (same_id (c.id t.0)) (c.waits s.waiting)) _ _ _ _
+          (ap (list_any (same_id (c.id t.0))) (whole.queued s.waiting) ∙ on_list_changed t.0 s.waiting)
+          (ap (λ (x : State). record { state = x; answer = answer.Cancelled (c.id t.0) })
+          (cancelled_changed t.0 t.1 (request_puts t.0 t.1 (is t refl))))
+          refl
 
-    pub send_changed : (v : Var) → ops.send (changed c s) (live_handle (changed c s) (c.var v)) ≡ coded_changed (ops.send s (live_handle s v))
-    send_changed v = ap (ops.send (changed c s)) (live_handle_changed v) ∙ by_sent (live_handle s v) (live_held s v)
+      pub cancel_changed : Cancels s
+      cancel_changed o v = ap (ops.cancel (changed c s)) (live_request_changed v) ∙ by_cancel o (live_request s v) (request_live v)
 
-    -- on handles
-    start_changed : (o : Option Op) (timeout repeat : ℕ) (id : Id) (h : HandleRecord) → Puts s id → Due_at s timeout → is_timer h.kind ≡ true →
-        ops.start (changed c s) timeout repeat (c.id id) (changed_handle c h) ≡ done_changed o (ops.start s timeout repeat id h)
-    start_changed o timeout repeat id h puts at timer =
-        ap (λ (u : State). ops.succeeds (started u (c.id id) (changed_handle c h) timeout repeat)) (stopped_changed id h puts)
-        ∙ ap ops.succeeds (started_changed (stopped s id h) id h timeout repeat (put_twice (taken_off s id h) id (records.stopped h) puts) at
-        (λ due. hides.ticks h.kind due timer) hides.more)
+      some_live : (x : Option (Id × Content)) → is_some (option_map (changed_live c) x) ≡ is_some x
+      some_live None = refl
+      some_live (Some t) = refl
 
-    again_changed : (o : Option Op) (id : Id) (h : HandleRecord) → handle s id ≡ Some h → is_timer h.kind ≡ true →
-        ops.again (changed c s) (c.id id) (changed_handle c h) ≡ done_changed o (ops.again s id h)
-    again_changed o id h is timer =
-        let puts = handle_puts id h is in
-        ap (λ (u : State). ops.succeeds (restarted u (c.id id) (changed_handle c h))) (stopped_changed id h puts)
-        ∙ ap ops.succeeds (restarted_changed (stopped s id h) id h (put_twice (taken_off s id h) id (records.stopped h) puts) (hides.repeats id h is)
-        (λ due. hides.ticks h.kind due timer) hides.more)
+      pub whole_clocks : Clocks s
+      whole_clocks = (whole.clocks, whole.over)
 
-    first_changed : (q : WatcherKind) (id : Id) →
-        with_watched (changed c s) q (with_first (watched (changed c s) q) (c.id id)) ≡ changed c (with_watched s q (with_first (watched s q) id))
-    first_changed watcher.Idle id = refl
-    first_changed watcher.Prepare id = refl
-    first_changed watcher.Check id = refl
-    first_changed watcher.Async id = refl
+      pub whole_done : AreDone s
+      whole_done = (whole.ended [], whole.ended s.done.list)
 
-    -- what isn't a timer is started: its due time stays
-    active_changed : (u : State) (id : Id) (h : HandleRecord) → Puts u id → is_timer h.kind ≡ false →
-        with_handle (changed c u) (c.id id) (activated (changed_handle c h)) ≡ changed c (with_handle u id (activated h))
-    active_changed u id h puts other =
-        ap (λ due. with_handle (changed c u) (c.id id) (record (activated h) { name = c.var h.name; due = due }))
-        (hides.rests h.active h.kind h.due (by h.active (is_timer h.kind) other) ∙ sym (hides.rests true h.kind h.due other))
-        ∙ put_changed u id (activated h) puts
-      where
-        by : (a b : Bool) → b ≡ false → a && b ≡ false
-        by true b e = e
-        by false b e = refl
+      pub whole_reads : Reads p s
+      whole_reads = record {
+        handles = handle_changed;
+        puts = λ id h is. holds_handle (held s.arena.slots id) h is (λ e x. whole.turns id (content.Handle h) x e);
+        frees = λ id h is. holds_handle (held s.arena.slots id) h is (whole.frees id (content.Handle h));
+        found = front_request_changed s.done.yet;
+        collects = λ t e. holds_request (held s.arena.slots t.0) t.1 (request_held s s.done.yet t e) (whole.frees t.0 (content.Request t.1));
+        lives = live_handle_changed;
+        is_live = λ v. ap is_some (whole.lives v) ∙ some_live (live s v);
+        queues = one_more c.waits whole.queued s.waiting;
+        cancelled = λ e. cancel_changed;
+        clocks = λ e. whole_clocks;
+        done = λ e. whole_done;
+      }
 
-    by_kind : (q : Option WatcherKind) (id : Id) (h : HandleRecord) → Puts s id → is_timer h.kind ≡ false →
-        found_or q (λ q. ops.watcher_started (changed c s) q (c.id id) (changed_handle c h))
-        (with_handle (changed c s) (c.id id) (activated (changed_handle c h)))
-        ≡ changed c (found_or q (λ q. ops.watcher_started s q id h) (with_handle s id (activated h)))
-    by_kind None id h puts other = active_changed s id h puts other
-    by_kind (Some q) id h puts other = ap (λ (u : State). with_handle u (c.id id) (activated (changed_handle c h))) (first_changed q id)
-        ∙ active_changed (with_watched s q (with_first (watched s q) id)) id h puts other
+    -- ---- the loop's own step
 
-    start_watcher_changed : (o : Option Op) (id : Id) (h : HandleRecord) → Puts s id → is_timer h.kind ≡ false →
-        ops.start_watcher (changed c s) (c.id id) (changed_handle c h) ≡ done_changed o (ops.start_watcher s id h)
-    start_watcher_changed o id h puts other = ap ops.succeeds
-        (if_shift (changed c) h.active h.active _ _ _ _ refl refl (by_kind (watcher_kind h.kind) id h puts other))
+    module _ (reads : Reads p s) where
+      pub front_changed : (ids : List Id) → front (changed c s) (map c.id ids) ≡ option_map (changed_pair c) (front s ids)
+      front_changed [] = refl
+      front_changed (id ∷ ids) = ap (with_id (c.id id)) (reads.handles id) ∙ with_id_changed id (handle s id)
 
-    closed_changed : (id : Id) (h : HandleRecord) → Puts s id → ops.closed (changed c s) (c.id id) (changed_handle c h)
-        ≡ changed c (ops.closed s id h)
-    closed_changed id h puts =
-        ap₂ (λ (off : State) due. with_handle (record off { closing = with_first (changed_walk c s.closing) (c.id id) }) (c.id id)
-        (record (records.closed h) { name = c.var h.name; due = due }))
-        (taken_off_changed s id h) (sym (hides.rests false h.kind _ refl))
-        ∙ put_changed (record (taken_off s id h) { closing = with_first s.closing id }) id (records.closed h) puts
+      pub first_due_changed : (ts : List (Due × Id)) →
+          first_due (changed c s) (map (changed_entry c) ts) ≡ option_map (changed_pair c) (first_due s ts)
+      first_due_changed [] = refl
+      first_due_changed (t ∷ ts) = if_shift (option_map (changed_pair c)) (nat_le t.0.at s.time) (nat_le (c.due t.0).at (c.time s.time)) _ _ _ _
+          (hides.passed t.0) (ap (with_id (c.id t.1)) (reads.handles t.1) ∙ with_id_changed t.1 (handle s t.1)) refl
 
-    due_in_changed : (h : HandleRecord) → is_timer h.kind ≡ true → dues.due_in (c.time s.time) (changed_handle c h) ≡ dues.due_in s.time h
-    due_in_changed h timer = by h.active where
-      by : (b : Bool) → (if b then (c.due_in b h.kind h.due).at - c.time s.time else 0) ≡ (if b then h.due.at - s.time else 0)
-      by true = ap (λ (due : Due). due.at - c.time s.time) (hides.ticks h.kind h.due timer) ∙ hides.left h.due
-      by false = refl
+      -- ---- ops
 
-    pub op_changed : (at : Site) (o : Op) → op_at p at ≡ Some o → do_op (changed c s) (changed_op c o) ≡ done_changed (Some o) (do_op s o)
-    op_changed at (op.Init v k) e = make_changed _ v _ _ (new_changed v k)
-    op_changed at (op.Queue v task) e = make_changed _ v _ _ (queued_changed v task)
-    op_changed at (op.Cancel v) e = cancel_changed _ v
-    op_changed at (op.Start v timeout repeat) e = on_handle_changed _ v start_timer_refusal _ _ (λ h. refl)
-        (λ id h is w. start_changed None timeout repeat id h (handle_puts id h is) (hides.starts at v timeout repeat e)
-        (is_a_timer (is_timer h.kind) _ w))
-    op_changed at (op.StartWatcher v) e = on_handle_changed _ v start_watcher_refusal _ _ (λ h. refl)
-        (λ id h is w. start_watcher_changed None id h (handle_puts id h is) (starts_no_timer h.kind h.closing w))
-    op_changed at (op.Stop v) e = on_handle_changed _ v stop_refusal _ _ (λ h. refl)
-        (λ id h is w. ap ops.succeeds (stopped_changed id h (handle_puts id h is)))
-    op_changed at (op.Again v) e = on_handle_changed _ v again_refusal _ _ (λ h. refl)
-        (λ id h is w. again_changed None id h is (is_a_timer (is_timer h.kind) _ w))
-    op_changed at (op.SetRepeat v repeat) e = on_handle_changed _ v timer_refusal _ _ (λ h. refl)
-        (λ id h is w. ap ops.succeeds (put_changed s id (repeating repeat h) (handle_puts id h is)))
-    op_changed at (op.DueIn v) e = on_handle_changed _ v timer_refusal _ _ (λ h. refl)
-        (λ id h is w. ap (λ n. ops.says (changed c s) (answer.Number n)) (due_in_changed h (is_a_timer (is_timer h.kind) _ w)))
-    op_changed at (op.Close v) e = on_handle_changed _ v close_refusal _ _ (λ h. refl)
-        (λ id h is w. ap ops.succeeds (closed_changed id h (handle_puts id h is)))
-    op_changed at (op.Ref v) e = on_handle_changed _ v no_refusal _ _ (λ h. refl)
-        (λ id h is w. ap ops.succeeds (put_changed s id (referenced_as true h) (handle_puts id h is)))
-    op_changed at (op.Unref v) e = on_handle_changed _ v no_refusal _ _ (λ h. refl)
-        (λ id h is w. ap ops.succeeds (put_changed s id (referenced_as false h) (handle_puts id h is)))
-    op_changed at (op.HasRef v) e = on_handle_changed _ v no_refusal _ _ (λ h. refl) (λ id h is w. refl)
-    op_changed at (op.IsActive v) e = on_handle_changed _ v no_refusal _ _ (λ h. refl) (λ id h is w. refl)
-    op_changed at (op.IsClosing v) e = on_handle_changed _ v no_refusal _ _ (λ h. refl) (λ id h is w. refl)
-    op_changed at (op.Send v) e = ap ops.says_code (send_changed v)
-    op_changed at op.StopLoop e = refl
-    op_changed at op.UpdateTime e = ap ops.succeeds refreshed_changed
-    op_changed at op.Now e = refl
-    op_changed at op.IsAlive e = ap (λ b. ops.says (changed c s) (answer.Flag b)) alive
-    op_changed at op.Timeout e = ap (λ t. ops.says (changed c s) (answer.Timeout t)) backend_changed
-    op_changed at op.CloseLoop e =
-        if_shift (done_changed (Some op.CloseLoop)) (ops.is_in_use s) (ops.is_in_use (changed c s)) _ _ _ _ hides.uses refl refl
+      by_handle : (o : Option Op) (t : Result (Id × HandleRecord) Code) (why : HandleRecord → Option Code) (f f' : Id → HandleRecord → ops.Done) →
+          ((h : HandleRecord) → why (changed_handle c h) ≡ why h) →
+          ((u : Id × HandleRecord) → t ≡ Ok u → why u.1 ≡ None → f' (c.id u.0) (changed_handle c u.1) ≡ done_changed o (f u.0 u.1)) →
+          ops.on_handle (changed c s) (found_handle t) why f' ≡ done_changed o (ops.on_handle s t why f)
+      by_handle o (Err code) why f f' same each = refl
+      by_handle o (Ok u) why f f' same each =
+          ap (λ w. found_or w (refuses (changed c s)) (f' (c.id u.0) (changed_handle c u.1))) (same u.1) ∙ by (why u.1) (each u refl) where
+            by : (w : Option Code) → (w ≡ None → f' (c.id u.0) (changed_handle c u.1) ≡ done_changed o (f u.0 u.1)) →
+                found_or w (refuses (changed c s)) (f' (c.id u.0) (changed_handle c u.1)) ≡ done_changed o (found_or w (refuses s) (f u.0 u.1))
+            by None k = k refl
+            by (Some code) k = refl
+
+      on_handle_changed : (o : Option Op) (v : Var) (why : HandleRecord → Option Code) (f f' : Id → HandleRecord → ops.Done) →
+          ((h : HandleRecord) → why (changed_handle c h) ≡ why h) →
+          ((id : Id) (h : HandleRecord) → handle s id ≡ Some h → why h ≡ None → f' (c.id id) (changed_handle c h) ≡ done_changed o (f id h)) →
+          ops.on_handle (changed c s) (live_handle (changed c s) (c.var v)) why f' ≡ done_changed o (ops.on_handle s (live_handle s v) why f)
+      on_handle_changed o v why f f' same each =
+          ap (λ t. ops.on_handle (changed c s) t why f') (reads.lives v)
+          ∙ by_handle o (live_handle s v) why f f' same (λ u e w. each u.0 u.1 (live_held s v u e) w)
+
+      -- what is made
+      by_free : (o : Option Op) (y : Option Id) (made made' : Id → State) → ((id : Id) → y ≡ Some id → made' (c.id id) ≡ changed c (made id)) →
+          found_or (option_map c.id y) (λ id. record { state = made' id; answer = answer.Id id }) (refuses (changed c s) Efull)
+          ≡ done_changed o (found_or y (λ id. record { state = made id; answer = answer.Id id }) (refuses s Efull))
+      by_free o None made made' each = refl
+      by_free o (Some id) made made' each = ap (λ (x : State). record { state = x; answer = answer.Id (c.id id) }) (each id refl)
+
+      by_live : (o : Option Op) (x x' : Option (Id × Content)) (made made' : Id → State) → is_some x' ≡ is_some x →
+          ((id : Id) → next_free s.arena ≡ Some id → made' (c.id id) ≡ changed c (made id)) →
+          ops.make (changed c s) x' made' ≡ done_changed o (ops.make s x made)
+      by_live o (Some t) (Some u) made made' e each = refl
+      by_live o (Some t) None made made' e each = cc e
+      by_live o None (Some u) made made' e each = cc e
+      by_live o None None made made' e each =
+          ap (λ (x : Option Id). found_or x (λ id. record { state = made' id; answer = answer.Id id }) (refuses (changed c s) Efull)) hides.finds
+          ∙ by_free o (next_free s.arena) made made' each
+
+      make_changed : (o : Option Op) (v : Var) (made made' : Id → State) →
+          ((id : Id) → next_free s.arena ≡ Some id → made' (c.id id) ≡ changed c (made id)) →
+          ops.make (changed c s) (live (changed c s) (c.var v)) made' ≡ done_changed o (ops.make s (live s v) made)
+      make_changed o v made made' each = by_live o (live s v) (live (changed c s) (c.var v)) made made' (reads.is_live v) each
+
+      -- a state with the names of this one
+      bound_changed : (u : State) (v : Var) (id : Id) → u.names ≡ s.names → next_free s.arena ≡ Some id →
+          ops.bound_to (changed c u) (c.var v) (c.id id) ≡ changed c (ops.bound_to u v id)
+      bound_changed u v id same e = rw same (ap (λ ns. record (changed c u) { names = ns }) (hides.binds v id e))
+
+      inited_changed : (v : Var) (k : Kind) → content.Handle (inited (c.var v) k) ≡ changed_content c (content.Handle (inited v k))
+      inited_changed v k = ap (λ due. content.Handle (record (inited (c.var v) k) { due = due })) (sym (hides.rests (is_async k) k _ (by k))) where
+        by : (k : Kind) → is_async k && is_timer k ≡ false
+        by k = grind arith
+
+      listed_changed : (u : State) (k : Kind) (id : Id) → ops.listed_last (changed c u) k (c.id id) ≡ changed c (ops.listed_last u k id)
+      listed_changed u k id = if_shift (changed c) (is_async k) (is_async k) _ u _ (changed c u) refl (search map-append) refl
+
+      new_changed : (v : Var) (k : Kind) (id : Id) → next_free s.arena ≡ Some id →
+          ops.with_new (changed c s) (c.var v) k (c.id id) ≡ changed c (ops.with_new s v k id)
+      new_changed v k id e =
+          let x = content.Handle (inited v k) in
+          let u = record s { arena = taken id x s.arena } in
+          ap (λ (y : Content). ops.bound_to
+          (ops.listed_last (record (changed c s) { arena = taken (c.id id) y (changed_arena c s.arena) }) k (c.id id)) (c.var v) (c.id id))
+          (inited_changed v k)
+          ∙ ap (λ (a : Slots Content). ops.bound_to (ops.listed_last (record (changed c s) { arena = a }) k (c.id id)) (c.var v) (c.id id))
+          (hides.takes id x e)
+          ∙ ap (λ (t : State). ops.bound_to t (c.var v) (c.id id)) (listed_changed u k id)
+          ∙ bound_changed (ops.listed_last u k id) v id (by (is_async k) u) e
+        where
+          by : (b : Bool) (u : State) → (if b then with_watched u watcher.Async (with_last (watched u watcher.Async) id) else u).names ≡ u.names
+          by true u = refl
+          by false u = refl
+
+      queued_changed : (v : Var) (task : Task) (id : Id) → next_free s.arena ≡ Some id →
+          ops.with_queued (changed c s) (c.var v) task (c.id id) ≡ changed c (ops.with_queued s v task id)
+      queued_changed v task id e =
+          let x = content.Request (queued v task) in
+          ap₂ (λ (a : Slots Content) (ids : List Id). ops.bound_to (record (changed c s) { arena = a; waiting = ids }) (c.var v) (c.id id))
+          (hides.takes id x e) (sym (reads.queues id))
+          ∙ bound_changed (record s { arena = taken id x s.arena; waiting = s.waiting ++ id ∷ [] }) v id refl e
+
+      by_send : (w : Option Code) (id : Id) (h : HandleRecord) → Puts s id →
+          found_or w (λ code. record { state = changed c s; code = code })
+          (record { state = with_handle (changed c s) (c.id id) (changed_handle c (records.sent h)); code = Success })
+          ≡ coded_changed (found_or w (λ code. record { state = s; code = code })
+          (record { state = with_handle s id (records.sent h); code = Success }))
+      by_send None id h puts = ap (λ (x : State). record { state = x; code = Success }) (put_changed s id (records.sent h) puts)
+      by_send (Some code) id h puts = refl
+
+      by_sent : (t : Result (Id × HandleRecord) Code) → ((u : Id × HandleRecord) → t ≡ Ok u → handle s u.0 ≡ Some u.1) →
+          ops.send (changed c s) (found_handle t) ≡ coded_changed (ops.send s t)
+      by_sent (Err code) is = refl
+      by_sent (Ok t) is = by_send (send_refusal t.1) t.0 t.1 (reads.puts t.0 t.1 (is t refl))
+
+      pub send_changed : (v : Var) → ops.send (changed c s) (live_handle (changed c s) (c.var v)) ≡ coded_changed (ops.send s (live_handle s v))
+      send_changed v = ap (ops.send (changed c s)) (reads.lives v) ∙ by_sent (live_handle s v) (live_held s v)
+
+      -- on handles
+      start_changed : (o : Option Op) (timeout repeat : ℕ) (id : Id) (h : HandleRecord) → Puts s id → Due_at s timeout → is_timer h.kind ≡ true →
+          ops.start (changed c s) timeout repeat (c.id id) (changed_handle c h) ≡ done_changed o (ops.start s timeout repeat id h)
+      start_changed o timeout repeat id h puts at timer =
+          ap (λ (u : State). ops.succeeds (started u (c.id id) (changed_handle c h) timeout repeat)) (stopped_changed id h puts)
+          ∙ ap ops.succeeds (started_changed (stopped s id h) id h timeout repeat (put_twice (taken_off s id h) id (records.stopped h) puts) at
+          (λ due. hides.ticks h.kind due timer) hides.more)
+
+      again_changed : (o : Option Op) (id : Id) (h : HandleRecord) → handle s id ≡ Some h → is_timer h.kind ≡ true →
+          ops.again (changed c s) (c.id id) (changed_handle c h) ≡ done_changed o (ops.again s id h)
+      again_changed o id h is timer =
+          let puts = reads.puts id h is in
+          ap (λ (u : State). ops.succeeds (restarted u (c.id id) (changed_handle c h))) (stopped_changed id h puts)
+          ∙ ap ops.succeeds (restarted_changed (stopped s id h) id h (put_twice (taken_off s id h) id (records.stopped h) puts)
+          (hides.repeats id h is)
+          (λ due. hides.ticks h.kind due timer) hides.more)
+
+      first_changed : (q : WatcherKind) (id : Id) →
+          with_watched (changed c s) q (with_first (watched (changed c s) q) (c.id id)) ≡ changed c (with_watched s q (with_first (watched s q) id))
+      first_changed watcher.Idle id = refl
+      first_changed watcher.Prepare id = refl
+      first_changed watcher.Check id = refl
+      first_changed watcher.Async id = refl
+
+      -- what isn't a timer is started: its due time stays
+      active_changed : (u : State) (id : Id) (h : HandleRecord) → Puts u id → is_timer h.kind ≡ false →
+          with_handle (changed c u) (c.id id) (activated (changed_handle c h)) ≡ changed c (with_handle u id (activated h))
+      active_changed u id h puts other =
+          ap (λ due. with_handle (changed c u) (c.id id) (record (activated h) { name = c.var h.name; due = due }))
+          (hides.rests h.active h.kind h.due (by h.active (is_timer h.kind) other) ∙ sym (hides.rests true h.kind h.due other))
+          ∙ put_changed u id (activated h) puts
+        where
+          by : (a b : Bool) → b ≡ false → a && b ≡ false
+          by true b e = e
+          by false b e = refl
+
+      by_kind : (q : Option WatcherKind) (id : Id) (h : HandleRecord) → Puts s id → is_timer h.kind ≡ false →
+          found_or q (λ q. ops.watcher_started (changed c s) q (c.id id) (changed_handle c h))
+          (with_handle (changed c s) (c.id id) (activated (changed_handle c h)))
+          ≡ changed c (found_or q (λ q. ops.watcher_started s q id h) (with_handle s id (activated h)))
+      by_kind None id h puts other = active_changed s id h puts other
+      by_kind (Some q) id h puts other = ap (λ (u : State). with_handle u (c.id id) (activated (changed_handle c h))) (first_changed q id)
+          ∙ active_changed (with_watched s q (with_first (watched s q) id)) id h puts other
+
+      start_watcher_changed : (o : Option Op) (id : Id) (h : HandleRecord) → Puts s id → is_timer h.kind ≡ false →
+          ops.start_watcher (changed c s) (c.id id) (changed_handle c h) ≡ done_changed o (ops.start_watcher s id h)
+      start_watcher_changed o id h puts other = ap ops.succeeds
+          (if_shift (changed c) h.active h.active _ _ _ _ refl refl (by_kind (watcher_kind h.kind) id h puts other))
+
+      closed_changed : (id : Id) (h : HandleRecord) → Puts s id → ops.closed (changed c s) (c.id id) (changed_handle c h)
+          ≡ changed c (ops.closed s id h)
+      closed_changed id h puts =
+          ap₂ (λ (off : State) due. with_handle (record off { closing = with_first (changed_walk c s.closing) (c.id id) }) (c.id id)
+          (record (records.closed h) { name = c.var h.name; due = due }))
+          (taken_off_changed s id h) (sym (hides.rests false h.kind _ refl))
+          ∙ put_changed (record (taken_off s id h) { closing = with_first s.closing id }) id (records.closed h) puts
+
+      due_in_changed : (h : HandleRecord) → is_timer h.kind ≡ true → dues.due_in (c.time s.time) (changed_handle c h) ≡ dues.due_in s.time h
+      due_in_changed h timer = by h.active where
+        by : (b : Bool) → (if b then (c.due_in b h.kind h.due).at - c.time s.time else 0) ≡ (if b then h.due.at - s.time else 0)
+        by true = ap (λ (due : Due). due.at - c.time s.time) (hides.ticks h.kind h.due timer) ∙ hides.left h.due
+        by false = refl
+
+      pub op_changed : (at : Site) (o : Op) → op_at p at ≡ Some o → (cancels_op o ≡ true → Cancels s) → (op_reads_clock o ≡ true → Clocks s) →
+          do_op (changed c s) (changed_op c o) ≡ done_changed (Some o) (do_op s o)
+      op_changed at (op.Init v k) e work time = make_changed _ v _ _ (new_changed v k)
+      op_changed at (op.Queue v task) e work time = make_changed _ v _ _ (queued_changed v task)
+      op_changed at (op.Cancel v) e work time = work refl _ v
+      op_changed at (op.Start v timeout repeat) e work time = on_handle_changed _ v start_timer_refusal _ _ (λ h. refl)
+          (λ id h is w. start_changed None timeout repeat id h (reads.puts id h is) (hides.starts at v timeout repeat e)
+          (is_a_timer (is_timer h.kind) _ w))
+      op_changed at (op.StartWatcher v) e work time = on_handle_changed _ v start_watcher_refusal _ _ (λ h. refl)
+          (λ id h is w. start_watcher_changed None id h (reads.puts id h is) (starts_no_timer h.kind h.closing w))
+      op_changed at (op.Stop v) e work time = on_handle_changed _ v stop_refusal _ _ (λ h. refl)
+          (λ id h is w. ap ops.succeeds (stopped_changed id h (reads.puts id h is)))
+      op_changed at (op.Again v) e work time = on_handle_changed _ v again_refusal _ _ (λ h. refl)
+          (λ id h is w. again_changed None id h is (is_a_timer (is_timer h.kind) _ w))
+      op_changed at (op.SetRepeat v repeat) e work time = on_handle_changed _ v timer_refusal _ _ (λ h. refl)
+          (λ id h is w. ap ops.succeeds (put_changed s id (repeating repeat h) (reads.puts id h is)))
+      op_changed at (op.DueIn v) e work time = on_handle_changed _ v timer_refusal _ _ (λ h. refl)
+          (λ id h is w. ap (λ n. ops.says (changed c s) (answer.Number n)) (due_in_changed h (is_a_timer (is_timer h.kind) _ w)))
+      op_changed at (op.Close v) e work time = on_handle_changed _ v close_refusal _ _ (λ h. refl)
+          (λ id h is w. ap ops.succeeds (closed_changed id h (reads.puts id h is)))
+      op_changed at (op.Ref v) e work time = on_handle_changed _ v no_refusal _ _ (λ h. refl)
+          (λ id h is w. ap ops.succeeds (put_changed s id (referenced_as true h) (reads.puts id h is)))
+      op_changed at (op.Unref v) e work time = on_handle_changed _ v no_refusal _ _ (λ h. refl)
+          (λ id h is w. ap ops.succeeds (put_changed s id (referenced_as false h) (reads.puts id h is)))
+      op_changed at (op.HasRef v) e work time = on_handle_changed _ v no_refusal _ _ (λ h. refl) (λ id h is w. refl)
+      op_changed at (op.IsActive v) e work time = on_handle_changed _ v no_refusal _ _ (λ h. refl) (λ id h is w. refl)
+      op_changed at (op.IsClosing v) e work time = on_handle_changed _ v no_refusal _ _ (λ h. refl) (λ id h is w. refl)
+      op_changed at (op.Send v) e work time = ap ops.says_code (send_changed v)
+      op_changed at op.StopLoop e work time = refl
+      op_changed at op.UpdateTime e work time = ap ops.succeeds (refreshed_changed (time refl))
+      op_changed at op.Now e work time = refl
+      op_changed at op.IsAlive e work time = ap (λ b. ops.says (changed c s) (answer.Flag b)) alive
+      op_changed at op.Timeout e work time = ap (λ t. ops.says (changed c s) (answer.Timeout t)) backend_changed
+      op_changed at op.CloseLoop e work time =
+          if_shift (done_changed (Some op.CloseLoop)) (ops.is_in_use s) (ops.is_in_use (changed c s)) _ _ _ _ hides.uses refl refl

@@ -1,9 +1,10 @@
 -- What a change leaves as it is: names, or ids, or the lines of calls.
-use Rattle.uv_alike.proofs.Names.{◌≡◌, List, [], ◌∷◌, Option, Some, None, refl, ap, sym, Id, Var, Op, MainOp, CallbackLine, Event, Loop, Take, Finish, Cancel, Send, Io, Tick, Slot, Content, list_any, Bool, ap₂, ℕ, State, slice_get, slice_set}
+use Rattle.uv_alike.proofs.Names.{◌≡◌, List, [], ◌∷◌, Option, Some, None, refl, ap, sym, arith, Id, Stage, Poll, Var, Op, MainOp, CallbackLine, Event, Loop, Take, Finish, Cancel, Send, Io, Tick, Slot, Content, list_any, Bool, ap₂, ℕ, State, slice_get, slice_set}
 use Rattle.std.specs.Prelude.{◌||◌, map, option_map}
+use Rattle.uv_records.specs.Walks.{Walk}
 use Rattle.uv_script.specs.declared.op.Op.TheVariants as op
 use Rattle.uv_script.specs.declared.op.MainOp.TheVariants as main
-use Rattle.uv_alike.specs.Changed.{Change, changed_op, changed_callback, changed_main, changed_event}
+use Rattle.uv_alike.specs.Changed.{Change, changed, changed_stage, changed_walk, changed_op, changed_callback, changed_main, changed_event}
 
 pub option_same : {X : Type 0} (f : X → X) → ((x : X) → f x ≡ x) → (o : Option X) → option_map f o ≡ o
 option_same f same None = refl
@@ -72,3 +73,27 @@ module _ (c : Change) (var : (v : Var) → c.var v ≡ v) where
   event_same (Send v) = ap Send (var v)
   event_same (Io v) = ap Io (var v)
   event_same (Tick ms) = refl
+
+-- a stage, where the time stays
+pub stage_same : (c : Change) → ((n : ℕ) → c.time n ≡ n) → (stage : Stage) → changed_stage c stage ≡ stage
+stage_same c time (Poll deadline) = ap Poll (option_same _ time deadline)
+stage_same c time stage = grind arith
+
+-- where no id is another, the lists of handles stay, and so do the requests whose callbacks are under way
+module _ (c : Change) (id : (x : Id) → c.id x ≡ x) where
+  walk_same : (w : Walk Id) → changed_walk c w ≡ w
+  walk_same w = λ i. record { list = list_same c.id id w.list i; yet = list_same c.id id w.yet i }
+
+  pub lists_same : (s : State) → changed c s ≡ record (changed c s)
+      { ready = s.ready; watchers = s.watchers; closing = s.closing; done = record { list = c.ends s.done.list; yet = s.done.yet } }
+  lists_same s = λ i. record (changed c s) {
+    ready = list_same c.id id s.ready i;
+    watchers = record {
+      idle = walk_same s.watchers.idle i;
+      prepare = walk_same s.watchers.prepare i;
+      check = walk_same s.watchers.check i;
+      async = walk_same s.watchers.async i;
+    };
+    closing = walk_same s.closing i;
+    done = record { list = c.ends s.done.list; yet = list_same c.id id s.done.yet i };
+  }

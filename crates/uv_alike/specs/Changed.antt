@@ -57,8 +57,10 @@ pub record Change : Type 0 where
   -- what names are bound to and how often they were called; the call that a body belongs to
   pub names : List Named → List Named
   pub count : ℕ → ℕ
-  -- what the workers run
+  -- who waits for a worker, what the workers run, and who is done
+  pub waits : List Id → List Id
   pub runs : List (Option Id) → List (Option Id)
+  pub ends : List Id → List Id
 
 module _ (c : Change) where
   abbrev pub changed_handle : HandleRecord → HandleRecord
@@ -112,9 +114,9 @@ module _ (c : Change) where
     ready = map c.id s.ready;
     watchers = changed_watchers s.watchers;
     closing = changed_walk s.closing;
-    waiting = map c.id s.waiting;
+    waiting = c.waits s.waiting;
     running = c.runs s.running;
-    done = changed_walk s.done;
+    done = record { list = c.ends s.done.list; yet = map c.id s.done.yet };
     time = c.time s.time;
     clock = c.clock s.clock;
     next_start = c.start s.next_start;

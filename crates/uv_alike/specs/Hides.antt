@@ -19,7 +19,7 @@ use Rattle.uv_records.specs.declared.named.Named.{Named}
 use Rattle.uv_records.specs.declared.slot.Slot.{Slot}
 use Rattle.uv_script.specs.Program.{Program, arena_size, lines_in}
 use Rattle.uv_work.specs.declared.content.Content.{Content}
-use Rattle.std.specs.Prelude.{option_map, ◌-◌}
+use Rattle.std.specs.Prelude.{List, map, option_map, ◌-◌}
 use Rattle.uv_ids.specs.declared.fault.Why.{Why}
 use Rattle.uv_ids.specs.declared.seen.Site.{Site}
 use Rattle.uv_script.specs.declared.op.Op.TheVariants as op
@@ -33,19 +33,13 @@ use Rattle.uv_model.specs.Next.{Next, Refuses}
 use Rattle.uv_alike.specs.Changed.{Change, changed_content, changed_arena, changed_body, changed_run, changed, changed_live, changed_callback, changed_main, changed_line}
 
 module _ (c : Change) (p : Program) where
-  -- what the step of a state may read and write
+  -- what each step of a state may read and write
   pub record Hides (s : State) : Type 0 where
-    -- ids, and what stands under them
+    -- ids
     pub same : (a b : Id) → same_id (c.id a) (c.id b) ≡ same_id a b
-    pub holds : (x : Id) → held (c.slots s.arena.slots) (c.id x) ≡ option_map (changed_content c) (held s.arena.slots x)
-    pub turns : (x : Id) (old new : Content) → held s.arena.slots x ≡ Some old
-        → with_held (c.slots s.arena.slots) (c.id x) ((changed_content c) new) ≡ c.slots (with_held s.arena.slots x new)
     pub finds : next_free ((changed_arena c) s.arena) ≡ option_map c.id (next_free s.arena)
     pub takes : (x : Id) (new : Content) → next_free s.arena ≡ Some x
         → taken (c.id x) ((changed_content c) new) ((changed_arena c) s.arena) ≡ (changed_arena c) (taken x new s.arena)
-    pub frees : (x : Id) (old : Content) → held s.arena.slots x ≡ Some old
-        → freed (arena_size p).last_generation (c.id x) ((changed_arena c) s.arena)
-        ≡ (changed_arena c) (freed (arena_size p).last_generation x s.arena)
     -- all slots
     pub keeps : list_any (λ (slot : Slot Content). content_keeps slot.content) (c.slots s.arena.slots)
         ≡ list_any (λ (slot : Slot Content). content_keeps slot.content) s.arena.slots
@@ -66,13 +60,10 @@ module _ (c : Change) (p : Program) where
         → due_after (c.time s.time) (c.start s.next_start) timeout ≡ c.due (due_after s.time s.next_start timeout)
     pub fires : (t : Id × HandleRecord) → front s s.ready ≡ Some t → (due : Due) → c.due_in true t.1.kind due ≡ c.due due
     pub falls : (t : Id × HandleRecord) → steps.first_due s s.timers ≡ Some t → (due : Due) → c.due_in true t.1.kind due ≡ c.due due
-    -- the time and the clock
+    -- the time
     pub waits : (n : ℕ) → c.time s.time + n ≡ c.time (s.time + n)
-    pub over : (n : ℕ) → nat_le (c.time n) (c.clock s.clock) ≡ nat_le n s.clock
-    pub clocks : c.clock s.clock ≡ c.time s.clock
     -- names
     pub known : (v : Var) → nat_lt (c.var v).0 (length (c.names s.names)) ≡ nat_lt v.0 (length s.names)
-    pub lives : (v : Var) → live ((changed c) s) (c.var v) ≡ option_map (changed_live c) (live s v)
     pub binds : (v : Var) (x : Id) → next_free s.arena ≡ Some x
         → slice_set (c.names s.names) (c.var v).0 (record (names.named (c.names s.names) (c.var v).0) { id = Some (c.id x) })
         ≡ c.names (slice_set s.names v.0 (record (names.named s.names v.0) { id = Some x }))
@@ -80,6 +71,20 @@ module _ (c : Change) (p : Program) where
     pub lines : (kind : Callback) (v : Var) (n : ℕ)
         → slice_get (lines_in p kind (c.var v)) n ≡ option_map (changed_callback c) (slice_get (lines_in p kind v) n)
     pub main : (line : ℕ) → s.place ≡ Main line → slice_get p.main line ≡ option_map (changed_main c) (slice_get p.main line)
+
+  -- the change is whole: what stands under an id, who waits, who is done and the clock are changed alike, so no step can tell, whatever it asks
+  pub record IsWhole (s : State) : Type 0 where
+    pub holds : (x : Id) → held (c.slots s.arena.slots) (c.id x) ≡ option_map (changed_content c) (held s.arena.slots x)
+    pub turns : (x : Id) (old new : Content) → held s.arena.slots x ≡ Some old
+        → with_held (c.slots s.arena.slots) (c.id x) ((changed_content c) new) ≡ c.slots (with_held s.arena.slots x new)
+    pub frees : (x : Id) (old : Content) → held s.arena.slots x ≡ Some old
+        → freed (arena_size p).last_generation (c.id x) ((changed_arena c) s.arena)
+        ≡ (changed_arena c) (freed (arena_size p).last_generation x s.arena)
+    pub lives : (v : Var) → live ((changed c) s) (c.var v) ≡ option_map (changed_live c) (live s v)
+    pub over : (n : ℕ) → nat_le (c.time n) (c.clock s.clock) ≡ nat_le n s.clock
+    pub clocks : c.clock s.clock ≡ c.time s.clock
+    pub queued : (ids : List Id) → c.waits ids ≡ map c.id ids
+    pub ended : (ids : List Id) → c.ends ids ≡ map c.id ids
 
   -- two ways to look at a step, by which one from a (changed c) state is one from the state itself
   pub record SeesAlike (s : State) (left right : Next → Next) : Type 0 where

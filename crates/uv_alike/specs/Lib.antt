@@ -1,2 +1,4 @@
+pub mod Asks
 pub mod Changed
+pub mod Contents
 pub mod Hides

@@ -11,7 +11,8 @@ use Rattle.uv_model.specs.declared.place.Run.{Run}
 use Rattle.uv_model.specs.declared.place.Place.{Place}
 use Rattle.uv_model.specs.declared.place.Place.TheVariants.{Main, Running}
 use Rattle.uv_model.specs.State.{State}
-use Rattle.uv_apart.specs.Apart.{cancels, cancels_at, cancels_line, cancels_main, cancels_op, cancels_run, is_apart, is_apart_at, is_apart_line, is_apart_main, is_apart_op, is_apart_run}
+use Rattle.uv_alike.specs.Asks.{cancels, cancels_at, cancels_line, cancels_main, cancels_op, cancels_run}
+use Rattle.uv_apart.specs.Apart.{is_apart, is_apart_at, is_apart_line, is_apart_main, is_apart_op, is_apart_run}
 
 op_cancels : (o : Op) → is_apart_op o ≡ true → cancels_op o ≡ false
 op_cancels (op.Cancel v) e = cc e

@@ -1,5 +1,5 @@
 -- What a worker takes and finishes, before or behind a step of the loop.
-use Rattle.std.proofs.Common.{◌≡◌, ℕ, zero, suc, List, [], ◌∷◌, ◌++◌, drop, Bool, true, false, Option, Some, None, Ok, Err, refl, ap, sym, subst, ◌∙◌, ◌||◌, slice_get, slice_set}
+use Rattle.std.proofs.Common.{◌≡◌, ℕ, suc, List, [], ◌∷◌, ◌++◌, drop, Bool, true, false, Option, Some, None, Ok, Err, refl, ap, sym, subst, ◌∙◌, ◌||◌, slice_get, slice_set}
 use Rattle.std.proofs.lemmas.Bool.{or_right}
 use Rattle.std.proofs.lemmas.Option.{same_Some}
 use Rattle.uv_ids.specs.declared.id.Id.{Id}
@@ -29,7 +29,8 @@ use Rattle.uv_model.proofs.Runs.{after-moves}
 use Rattle.uv_order.specs.Active.{has_id, run_ids}
 use Rattle.uv_order.proofs.IdLists.{has_both, itself}
 use Rattle.uv_order.proofs.Reaching.{reached}
-use Rattle.uv_apart.specs.Apart.{cancels, is_apart, Meets}
+use Rattle.uv_alike.specs.Asks.{cancels}
+use Rattle.uv_apart.specs.Apart.{is_apart, Meets}
 use Rattle.uv_apart.proofs.Cancels.{apart_cancels}
 use Rattle.uv_apart.proofs.Changed.{changed}
 use Rattle.uv_apart.proofs.Walk.{changed_next, next_changed}

@@ -26,8 +26,9 @@ use Rattle.uv_model.specs.declared.place.Place.TheVariants.{Main, Running}
 use Rattle.uv_model.specs.After.{IsMove}
 use Rattle.uv_model.specs.State.{State, front, front_request}
 use Rattle.uv_model.specs.Next as steps
-use Rattle.uv_model.specs.Next.{Next, Moves, Refuses, next}
-use Rattle.uv_apart.specs.Apart.{is_apart, is_apart_at, is_apart_main, is_apart_run, is_apart_stage, place_reads_clock, LeavesPlace}
+use Rattle.uv_model.specs.Next.{Moves, next}
+use Rattle.uv_alike.specs.Asks.{place_reads_clock}
+use Rattle.uv_apart.specs.Apart.{is_apart, is_apart_at, is_apart_main, is_apart_run, is_apart_stage, LeavesPlace}
 use Rattle.uv_apart.proofs.Cases.{found_both}
 use Rattle.uv_apart.proofs.Kept.{next_ticks}
 use Rattle.uv_apart.proofs.Pool.{next_takes, next_finishes}

@@ -9,7 +9,8 @@ ghost use Rattle.uv_script.specs.Program.{Program};
 ghost use Rattle.uv_model.specs.After.{after, IsMove};
 ghost use Rattle.uv_model.specs.State.{State};
 ghost use Rattle.uv_model.specs.Next.{Moves, Refuses, next};
-ghost use Rattle.uv_apart.specs.Apart.{cancels, is_apart, reads_clock, Meets, Crosses, LeavesPlace};
+ghost use Rattle.uv_alike.specs.Asks.{cancels, reads_clock};
+ghost use Rattle.uv_apart.specs.Apart.{is_apart, Meets, Crosses, LeavesPlace};
 
 /// A step of the loop that doesn't read the clock, and a tick, can be taken in both orders: with the same lines, to the same state. It does
 /// nothing, and is called for its clause.

@@ -1,17 +1,16 @@
 -- States that have the same form by their names go on alike.
-use Rattle.uv_by_name.proofs.Names.{◌≡◌, ℕ, ◌≤◌, List, false, Option, Some, None, refl, ap, sym, subst, ◌∙◌, arith, length, slice_get, option_map, Event, Take, Finish, Seen, Slots, held, Program, Content, State, Next, Moves, Refuses, next, ClockFits, IsTimed, IsYoung, IsOrder, arranged, arranged_slots, named_order, named_form, buried, buried_next, Fits, length_arranged, IsWhole, normal}
-use Rattle.uv_ids.specs.declared.seen.Seen.TheVariants as seen
+use Rattle.uv_by_name.proofs.Names.{◌≡◌, ℕ, ◌≤◌, List, false, Option, refl, ap, sym, subst, ◌∙◌, arith, length, slice_get, option_map, Event, Take, Finish, Seen, Slots, Program, Content, State, Next, Moves, Refuses, next, ClockFits, IsTimed, IsYoung, IsOrder, arranged, arranged_slots, named_order, named_form, buried, buried_next, Fits, length_arranged, IsWhole, normal}
 use Rattle.uv_names.specs.Counts.{AreBefore}
 use Rattle.uv_slots.specs.Arranged.{arranged_line, arranged_next}
 use Rattle.uv_slots.proofs.Buries.{names_buried}
 use Rattle.uv_slots.proofs.Grows.{HasUsed, next_grows}
-use Rattle.uv_slots.proofs.Kept.{StaysKept}
+use Rattle.uv_alike.proofs.Kept.{StaysKept}
 use Rattle.uv_slots.proofs.Moved.{whole_on}
 use Rattle.uv_slots.proofs.Arranging.{next_arranged}
 use Rattle.uv_slots.proofs.Twice.{order_moved, form_whole}
-use Rattle.uv_normal.specs.Normal.{holds_timer, calls_timer}
+use Rattle.uv_normal.specs.Normal.{calls_timer}
 use Rattle.uv_generations.specs.Bare.{bare_line}
-use Rattle.uv_workers.specs.Workers.{is_of_worker, line_by, next_by}
+use Rattle.uv_workers.specs.Workers.{is_of_worker, next_by}
 use Rattle.uv_pooled.specs.Pooled.{pooled, StepsPooled, NextPooled}
 use Rattle.uv_pooled.proofs.Steps as pools
 use Rattle.uv_by_name.specs.ByName.{settled, by_name, told_line, IsRegular, StepsByName, NextByName}

@@ -15,7 +15,8 @@ use Rattle.uv_ids.specs.declared.seen.Seen.TheVariants as seen
 use Rattle.uv_script.specs.Program.{Program, worker_count}
 use Rattle.uv_model.specs.State.{State}
 use Rattle.uv_model.specs.Next.{Next, Moves, Refuses, next}
-use Rattle.uv_apart.specs.Apart.{cancels, LeavesPlace, Crosses}
+use Rattle.uv_alike.specs.Asks.{cancels}
+use Rattle.uv_apart.specs.Apart.{LeavesPlace, Crosses}
 use Rattle.uv_apart.proofs.Pool.{Takes, takes_apart, take_next, take_refuses, next_takes, next_finishes}
 use Rattle.uv_apart.proofs.Beside.{takes_tick, takes_finish, takes_io, takes_send}
 use Rattle.uv_apart.proofs.Taken.{take_leaves}

@@ -11,7 +11,7 @@ use Rattle.uv_model.specs.declared.place.Body.{Body}
 use Rattle.uv_model.specs.declared.place.Place.{Place}
 use Rattle.uv_model.specs.declared.place.Place.TheVariants.{Main, Running}
 use Rattle.uv_model.specs.State.{State}
-use Rattle.uv_apart.specs.Apart.{cancels, cancels_at, cancels_line, cancels_main, cancels_op, cancels_run}
+use Rattle.uv_alike.specs.Asks.{cancels, cancels_at, cancels_line, cancels_main, cancels_op, cancels_run}
 use Rattle.uv_find.specs.Holding.{is_no_cancel}
 use Rattle.uv_find.specs.Ops.{of_main, of_lines, each_op}
 use Rattle.uv_find.proofs.Declaring.{lines_test}

@@ -9,7 +9,8 @@ use Rattle.uv_ids.specs.declared.seen.Seen.{Seen}
 use Rattle.uv_model.specs.After.{STEPS}
 use Rattle.uv_model.specs.State.{State}
 use Rattle.uv_model.specs.Next.{Next, Moves, Refuses, next}
-use Rattle.uv_apart.specs.Apart.{is_apart, reads_clock, Meets, LeavesPlace}
+use Rattle.uv_alike.specs.Asks.{reads_clock}
+use Rattle.uv_apart.specs.Apart.{is_apart, Meets, LeavesPlace}
 use Rattle.uv_apart.proofs.Cancels.{apart_cancels}
 use Rattle.uv_apart.proofs.Kept.{loop_keeps, ticks_apart}
 use Rattle.uv_apart.proofs.Pool.{takes_apart, finishes_apart}

@@ -1,5 +1,5 @@
 -- A state in which one name and the next one have changed places: it is as regular, and a step goes as it does.
-use Rattle.std.proofs.Common.{◌≡◌, ℕ, ◌+◌, ◌<◌, ◌≤◌, ◌^◌, Bool, true, false, List, [], ◌∷◌, length, slice_get, nat_le, if◌then◌else◌, refl, ap, sym, subst, ◌∙◌, Option, Some, None, arith}
+use Rattle.std.proofs.Common.{if◌then◌else◌, ◌≡◌, ℕ, ◌+◌, ◌<◌, ◌≤◌, ◌^◌, Bool, true, false, List, [], ◌∷◌, length, slice_get, nat_le, refl, ap, sym, subst, ◌∙◌, Option, Some, None, arith}
 use Rattle.std.specs.Prelude.{map, option_map, unwrap_or}
 use Rattle.std.proofs.lemmas.List.{length-map}
 use Rattle.std.proofs.lemmas.Option.{none-some, same_Some, slice_get-map}
@@ -29,7 +29,8 @@ use Rattle.uv_alike.proofs.Mapped.{held_mapped}
 use Rattle.uv_slots.specs.Alike.{moved_var, moved_content, moved_slot, by_names, AreAlike}
 use Rattle.uv_slots.specs.Arranged.{place_of, arranged_slots}
 use Rattle.uv_slots.specs.Buried.{CanBury, is_past_by}
-use Rattle.uv_slots.specs.NamedForm.{IsTidy, name_in, vacancies, vacant}
+use Rattle.uv_alike.specs.Contents.{name_in}
+use Rattle.uv_slots.specs.NamedForm.{IsTidy, vacancies, vacant}
 use Rattle.uv_slots.proofs.Orders.{Fits, get_arranged}
 use Rattle.uv_by_name.specs.ByName.{IsRegular}
 use Rattle.uv_find.proofs.Swap.{swap, swap_length, swap_order, twice_stays}

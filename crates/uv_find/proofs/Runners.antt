@@ -19,7 +19,8 @@ use Rattle.uv_normal.specs.Normal.{normal}
 use Rattle.uv_workers.specs.Workers.{is_of_worker, ordered}
 use Rattle.uv_slots.specs.Arranged.{arranged_id}
 use Rattle.uv_slots.specs.Buried.{buried}
-use Rattle.uv_slots.specs.NamedForm.{name_in, named_order}
+use Rattle.uv_alike.specs.Contents.{name_in}
+use Rattle.uv_slots.specs.NamedForm.{named_order}
 use Rattle.uv_workers.proofs.Frame.{put_next, next_same}
 use Rattle.uv_workers.proofs.Steps.{workers_alike}
 use Rattle.uv_pooled.proofs.Given.{has_at}

@@ -39,7 +39,7 @@ use Rattle.uv_names.specs.Counts.{capped_calls, capped_place}
 use Rattle.uv_alike.specs.Changed.{changed_body, changed_place, changed_stage}
 use Rattle.uv_slots.specs.Alike.{moved_var, moved_content, moved_slot, by_names}
 use Rattle.uv_slots.specs.Arranged.{place_of}
-use Rattle.uv_slots.specs.NamedForm.{name_in}
+use Rattle.uv_alike.specs.Contents.{name_in}
 use Rattle.uv_slots.proofs.Orders.{Fits, get_arranged}
 use Rattle.uv_workers.specs.Workers.{with_run, ordered}
 use Rattle.uv_workers.proofs.Runs.{swapped}

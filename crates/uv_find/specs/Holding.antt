@@ -1,6 +1,6 @@
 -- Where moves are held back: behind the loop's step, where only the thread pool, the clock and I/O come from outside and the step is apart
 -- from them; and behind a worker's take, where no line cancels and workers are alike.
-use Rattle.std.specs.Prelude.{ℕ, length, nat_le, take, Bool, true, false, ◌&&◌, not, List, [], ◌∷◌, Option, Some, None, is_none, if◌then◌else◌}
+use Rattle.std.specs.Prelude.{if◌then◌else◌, ℕ, length, nat_le, take, Bool, true, false, ◌&&◌, not, List, [], ◌∷◌, Option, Some, None, is_none}
 use Rattle.std.specs.List.{list_all}
 use Rattle.uv_ids.specs.declared.event.Event.TheVariants as event
 use Rattle.uv_script.specs.declared.op.Op.{Op}
@@ -13,7 +13,8 @@ use Rattle.uv_model.specs.declared.place.Stage.TheVariants as stage
 use Rattle.uv_model.specs.declared.place.Place.{Place}
 use Rattle.uv_model.specs.declared.place.Place.TheVariants.{Main, Running}
 use Rattle.uv_model.specs.State.{State}
-use Rattle.uv_apart.specs.Apart.{is_apart, cancels_op, reads_clock}
+use Rattle.uv_alike.specs.Asks.{cancels_op, reads_clock}
+use Rattle.uv_apart.specs.Apart.{is_apart}
 use Rattle.uv_asking.specs.Asked.{Asked}
 use Rattle.uv_asking.specs.declared.asking.Offer.{Offer}
 use Rattle.uv_asking.specs.declared.asking.Offer.TheVariants.{Step, Take, Wait, WaitFor}

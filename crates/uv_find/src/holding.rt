@@ -1,7 +1,7 @@
 //! Where moves are held back behind the loop's step.
 ghost use Rattle.std.specs.Prelude.{◌≡◌, slice_get};
 ghost use Rattle.uv_apart.specs.Apart.{is_apart, is_apart_op, is_apart_line, is_apart_main, is_apart_stage};
-ghost use Rattle.uv_apart.specs.Apart.{op_reads_clock, line_reads_clock, main_reads_clock, stage_reads_clock, reads_clock};
+ghost use Rattle.uv_alike.specs.Asks.{op_reads_clock, line_reads_clock, main_reads_clock, stage_reads_clock, reads_clock};
 ghost use Rattle.uv_asking.specs.Asked.{asked_in};
 ghost use Rattle.uv_find.specs.Holding.{can_meet, can_all_meet, asks_late, may_hold, hold_of, is_of_io, may_take_io, is_loop_apart};
 ghost use Rattle.uv_model.specs.After.{after};

@@ -1,34 +1,30 @@
 -- A step of the loop from a state whose names are changed so that no step can tell: it is a change of the state.
-use Rattle.std.proofs.Common.{◌≡◌, ◌∙◌, ℕ, List, Option, Some, None, refl, ap, ap₂, sym, arith, slice_set}
+use Rattle.std.proofs.Common.{◌≡◌, ◌∙◌, ℕ, List, Option, Some, refl, ap, ap₂, sym, arith, slice_set}
 use Rattle.uv_ids.specs.declared.event.Event.{Event}
-use Rattle.uv_ids.specs.declared.event.Event.TheVariants.{Loop, Take, Finish, Cancel, Send, Io, Tick}
+use Rattle.uv_ids.specs.declared.event.Event.TheVariants.{Take, Finish, Tick}
 use Rattle.uv_ids.specs.declared.id.Id.{Id}
 use Rattle.uv_ids.specs.declared.id.Var.{Var}
 use Rattle.uv_ids.specs.declared.seen.Callback.{Callback}
 use Rattle.uv_ids.specs.declared.seen.Seen.{Seen}
 use Rattle.uv_model.specs.Next.{Moves}
-use Rattle.uv_model.specs.State.{State, named, live, live_id}
-use Rattle.uv_model.specs.declared.place.Body.{Body}
+use Rattle.uv_model.specs.State.{State, named, live}
 use Rattle.uv_model.specs.declared.place.Place.{Place}
 use Rattle.uv_model.specs.declared.place.Place.TheVariants.{Main, Running}
 use Rattle.uv_model.specs.declared.place.Run.{Run}
-use Rattle.uv_model.specs.declared.place.Stage.{Stage}
-use Rattle.uv_model.specs.declared.place.Stage.TheVariants.{Poll}
 use Rattle.uv_records.specs.Slots.{held}
 use Rattle.uv_records.specs.declared.named.Named.{Named}
 use Rattle.uv_script.specs.Program.{Program}
 use Rattle.uv_work.specs.declared.content.Content.{Content}
-use Rattle.std.specs.Prelude.{map, option_map}
+use Rattle.std.specs.Prelude.{map}
 use Rattle.std.proofs.lemmas.List.{map-id, map-set, length-map}
-use Rattle.uv_records.specs.Walks.{Walk}
 use Rattle.uv_work.specs.declared.content.Content.TheVariants as content
 use Rattle.uv_model.specs.Next as steps
 use Rattle.uv_model.specs.Next.{Next, next}
 use Rattle.uv_names.proofs.Changed as of_names
 use Rattle.uv_names.proofs.Changed.{live_changed, named_changed}
-use Rattle.uv_alike.specs.Changed.{Change, Comes, changed, changed_content, changed_live, changed_body, changed_run, changed_place, changed_stage, changed_walk, changed_line, changed_event}
-use Rattle.uv_alike.specs.Hides.{Hides, SeesAlike as SeesChanged}
-use Rattle.uv_alike.proofs.Same.{option_same, lines_same, main_same, event_same, runs_same}
+use Rattle.uv_alike.specs.Changed.{Change, Comes, changed, changed_content, changed_live, changed_run, changed_place, changed_line}
+use Rattle.uv_alike.specs.Hides.{Hides, IsWhole, SeesAlike as SeesChanged}
+use Rattle.uv_alike.proofs.Same.{option_same, lines_same, lists_same, main_same, event_same, runs_same, stage_same}
 use Rattle.uv_alike.proofs.Walk.{next_alike}
 use Rattle.uv_ids.specs.declared.fault.Why.{Why}
 use Rattle.uv_model.specs.Next.{Refuses}
@@ -61,7 +57,9 @@ module _ (f : Named → Named) (c : ℕ → ℕ) (r : List (Option Id) → List 
     start = λ n. n;
     names = map f;
     count = c;
+    waits = map (λ x. x);
     runs = r;
+    ends = map (λ x. x);
   }
 
   content_same : (x : Content) → changed_content by_named x ≡ x
@@ -74,11 +72,8 @@ module _ (f : Named → Named) (c : ℕ → ℕ) (r : List (Option Id) → List 
   hides_named : (p : Program) (s : State) → of_names.Hides f s → Hides by_named p s
   hides_named p s can = record {
     same = λ a b. refl;
-    holds = λ x. sym (option_same _ content_same (held s.arena.slots x));
-    turns = λ x old new e. rw (content_same new) refl;
     finds = sym (option_same _ (λ x. refl) _);
     takes = λ x new e. rw (content_same new) refl;
-    frees = λ x old e. refl;
     keeps = refl;
     pends = refl;
     uses = refl;
@@ -93,10 +88,7 @@ module _ (f : Named → Named) (c : ℕ → ℕ) (r : List (Option Id) → List 
     fires = λ t e due. refl;
     falls = λ t e due. refl;
     waits = λ n. refl;
-    over = λ n. refl;
-    clocks = refl;
     known = λ v. search length-map;
-    lives = λ v. live_changed f of_names.as_is of_names.as_is s can v ∙ sym (option_same _ live_same (live s v));
     binds = λ v x e. ap (λ (n : Named). slice_set (map f s.names) v.0 (record n { id = Some x }))
         (named_changed f of_names.as_is of_names.as_is s v can.unbound)
         ∙ ap (slice_set (map f s.names) v.0) (sym (can.fresh x e (named s v))) ∙ sym (map-set f s.names v.0 (record (named s v) { id = Some x }));
@@ -104,35 +96,32 @@ module _ (f : Named → Named) (c : ℕ → ℕ) (r : List (Option Id) → List 
     main = λ line e. main_same by_named (λ v. refl) _;
   }
 
-  stage_same : (stage : Stage) → changed_stage by_named stage ≡ stage
-  stage_same (Poll deadline) = ap Poll (option_same _ (λ n. refl) deadline)
-  stage_same stage = grind arith
+  whole_named : (p : Program) (s : State) → of_names.Hides f s → IsWhole by_named p s
+  whole_named p s can = record {
+    holds = λ x. sym (option_same _ content_same (held s.arena.slots x));
+    turns = λ x old new e. rw (content_same new) refl;
+    frees = λ x old e. refl;
+    over = λ n. refl;
+    clocks = refl;
+    lives = λ v. live_changed f of_names.as_is of_names.as_is s can v ∙ sym (option_same _ live_same (live s v));
+    queued = λ ids. refl;
+    ended = λ ids. refl;
+  }
 
   run_same : (run : Run) → changed_run by_named run ≡ of_names.changed_run c run
-  run_same run = ap (λ stage. record (of_names.changed_run c run) { stage = stage }) (stage_same run.stage)
+  run_same run = ap (λ stage. record (of_names.changed_run c run) { stage = stage }) (stage_same by_named (λ n. refl) run.stage)
 
   place_same : (place : Place) → changed_place by_named place ≡ of_names.changed_place c place
   place_same (Main line) = refl
   place_same (Running run) = ap Running (run_same run)
 
-  walk_same : (w : Walk Id) → changed_walk by_named w ≡ w
-  walk_same w = λ i. record { list = map-id w.list i; yet = map-id w.yet i }
-
   changed_same : (s : State) → changed by_named s ≡ of_names.changed f c r s
-  changed_same s = λ i. record (of_names.changed f c r s) {
+  changed_same s = lists_same by_named (λ x. refl) s ∙ (λ i. record (of_names.changed f c r s) {
     place = place_same s.place i;
     timers = map-id s.timers i;
-    ready = map-id s.ready i;
-    watchers = record {
-      idle = walk_same s.watchers.idle i;
-      prepare = walk_same s.watchers.prepare i;
-      check = walk_same s.watchers.check i;
-      async = walk_same s.watchers.async i;
-    };
-    closing = walk_same s.closing i;
     waiting = map-id s.waiting i;
-    done = walk_same s.done i;
-  }
+    done = record s.done { list = map-id s.done.list i };
+  })
 
   line_same : (p : Program) (line : Seen) → changed_line by_named p line ≡ line
   line_same p line = grind arith
@@ -157,7 +146,7 @@ module _ (f : Named → Named) (c : ℕ → ℕ) (r : List (Option Id) → List 
       (e : Event) → Comes by_named s e → left (next p (of_names.changed f c r s) e) ≡ right (next p s e)
   event_alike p left right old s can e comes =
       ap₂ (λ u x. left (next p u x)) (sym (changed_same s)) (sym (event_same by_named (λ v. refl) e))
-      ∙ next_alike by_named p s (hides_named p s can) left right (sees p s left right old) e comes
+      ∙ next_alike by_named p s (hides_named p s can) (whole_named p s can) left right (sees p s left right old) e comes
 
 -- where the workers run what they ran
 pub step_alike : (p : Program) (f : Named → Named) (c : ℕ → ℕ) (left right : Next → Next) → SeesAlike p f c of_names.as_is left right →

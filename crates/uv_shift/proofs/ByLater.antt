@@ -1,24 +1,18 @@
 -- All times later are a change of the state: a step goes as it does.
-use Rattle.uv_shift.proofs.Names.{◌≡◌, ◌∙◌, ℕ, ◌+◌, ◌&&◌, ◌<◌, List, Bool, true, false, Option, Some, None, refl, ap, ap₂, sym, arith, list_any, nat_le, slice_get, slice_set, Id, Due, due_cmp, Var, Kind, Slot, Content, State, Program, HandleRecord, named, begun_at, handle, front, live, live_id, arena_size, held, Place, Main, Running, Run, Body, Stage, Poll, Moves, Seen, Event, Loop, Take, Finish, Cancel, Send, Io, Tick}
-use Rattle.uv_records.specs.declared.named.Named.{Named}
-use Rattle.std.specs.Prelude.{map, option_map, ◌^◌, ◌-◌, ◌≤◌}
+use Rattle.uv_shift.proofs.Names.{◌≡◌, ◌∙◌, ℕ, ◌+◌, ◌&&◌, ◌<◌, Bool, true, Option, Some, None, refl, ap, ap₂, sym, arith, list_any, nat_le, Id, Due, due_cmp, Kind, Slot, Content, State, Program, named, live, arena_size, held, Place, Main, Running, Body, Moves, Seen, Event, Take, Finish, Tick}
+use Rattle.std.specs.Prelude.{map, option_map, ◌^◌, ◌-◌}
 use Rattle.std.proofs.lemmas.List.{map-id}
-use Rattle.uv_ids.specs.declared.seen.Site.{Site}
 use Rattle.uv_script.specs.declared.op.Op.TheVariants as op
 use Rattle.uv_records.specs.Dues.{due_after}
 use Rattle.uv_records.specs.Handles.{is_timer}
-use Rattle.uv_records.specs.Walks.{Walk}
 use Rattle.uv_work.specs.declared.content.Content.TheVariants as content
 use Rattle.uv_model.specs.Content.{content_keeps, content_pends, is_used}
-use Rattle.uv_model.specs.Limits.{LATEST}
-use Rattle.uv_model.specs.Next as steps
-use Rattle.uv_model.specs.Next.{Next, Refuses, next, first_due}
+use Rattle.uv_model.specs.Next.{Next, Refuses, next}
 use Rattle.uv_shift.specs.Shift.{By, shift, shift_line, shift_next, ClockFits}
-use Rattle.uv_shift.proofs.Later.{CanShift, shift_due, shift_if, shift_content, shift_run, shift_place}
-use Rattle.uv_shift.proofs.Slots.{front_held, first_due_held}
-use Rattle.uv_alike.specs.Changed.{Change, Comes, changed, changed_content, changed_live, changed_body, changed_run, changed_place, changed_walk, changed_line, changed_event, changed_next}
-use Rattle.uv_alike.specs.Hides.{Hides, IsExact}
-use Rattle.uv_alike.proofs.Same.{option_same, any_same, lines_same, main_same, event_same, runs_same}
+use Rattle.uv_shift.proofs.Later.{CanShift, shift_due, shift_if, shift_content, shift_place}
+use Rattle.uv_alike.specs.Changed.{Change, Comes, changed, changed_content, changed_live, changed_body, changed_place, changed_line, changed_next}
+use Rattle.uv_alike.specs.Hides.{Hides, IsWhole, IsExact}
+use Rattle.uv_alike.proofs.Same.{option_same, any_same, lines_same, lists_same, main_same, event_same, runs_same}
 use Rattle.uv_alike.proofs.Mapped.{slot_of, held_mapped, turns_mapped, finds_mapped, takes_mapped, frees_mapped, live_mapped}
 use Rattle.uv_alike.proofs.Exact.{next_exact}
 
@@ -35,7 +29,9 @@ by_later d = record {
   start = λ n. n + d.starts;
   names = λ ns. ns;
   count = λ n. n;
+  waits = map (λ x. x);
   runs = λ rs. rs;
+  ends = map (λ x. x);
 }
 
 module _ (d : By) where
@@ -74,11 +70,8 @@ module _ (d : By) where
       let f = shift_content d in
       record {
         same = λ a b. refl;
-        holds = λ x. held_mapped f s.arena.slots x ∙ ap (λ g. option_map g (held s.arena.slots x)) (λ i y. content_same y i);
-        turns = λ x old new e. rw (sym (content_same new)) (turns_mapped f s.arena.slots x new);
         finds = finds_mapped f s.arena;
         takes = λ x new e. rw (sym (content_same new)) (takes_mapped f x new s.arena);
-        frees = λ x old e. frees_mapped f (arena_size p).last_generation x s.arena;
         keeps = keeps content_keeps (λ x. grind arith) s;
         pends = keeps content_pends (λ x. grind arith) s;
         uses = keeps is_used (λ x. grind arith) s;
@@ -93,13 +86,24 @@ module _ (d : By) where
         fires = λ t e due. if_timer t.1.kind due (can.ready t e);
         falls = λ t e due. if_timer t.1.kind due (can.first t e);
         waits = λ n. omega arith;
-        over = λ n. le_later n s.clock;
-        clocks = refl;
         known = λ v. refl;
-        lives = λ v. live_mapped f s (changed (by_later d) s) (named s v).id refl ∙ live_same (live s v);
         binds = λ v x e. refl;
         lines = λ kind v n. lines_same (by_later d) (λ v. refl) _;
         main = λ line e. main_same (by_later d) (λ v. refl) _;
+      }
+
+  whole_later : (p : Program) (s : State) → IsWhole (by_later d) p s
+  whole_later p s =
+      let f = shift_content d in
+      record {
+        holds = λ x. held_mapped f s.arena.slots x ∙ ap (λ g. option_map g (held s.arena.slots x)) (λ i y. content_same y i);
+        turns = λ x old new e. rw (sym (content_same new)) (turns_mapped f s.arena.slots x new);
+        frees = λ x old e. frees_mapped f (arena_size p).last_generation x s.arena;
+        over = λ n. le_later n s.clock;
+        clocks = refl;
+        lives = λ v. live_mapped f s (changed (by_later d) s) (named s v).id refl ∙ live_same (live s v);
+        queued = λ ids. refl;
+        ended = λ ids. refl;
       }
 
   -- ---- a step
@@ -111,23 +115,9 @@ module _ (d : By) where
   place_same (Main line) = refl
   place_same (Running run) = ap₂ (λ stage body. Running (record run { stage = stage; body = body })) (grind arith) (body_same run.body)
 
-  walk_same : (w : Walk Id) → changed_walk (by_later d) w ≡ w
-  walk_same w = λ i. record { list = map-id w.list i; yet = map-id w.yet i }
-
   changed_same : (s : State) → changed (by_later d) s ≡ shift d s
-  changed_same s = λ i. record (shift d s) {
-    place = place_same s.place i;
-    ready = map-id s.ready i;
-    watchers = record {
-      idle = walk_same s.watchers.idle i;
-      prepare = walk_same s.watchers.prepare i;
-      check = walk_same s.watchers.check i;
-      async = walk_same s.watchers.async i;
-    };
-    closing = walk_same s.closing i;
-    waiting = map-id s.waiting i;
-    done = walk_same s.done i;
-  }
+  changed_same s = lists_same (by_later d) (λ x. refl) s
+      ∙ (λ i. record (shift d s) { place = place_same s.place i; waiting = map-id s.waiting i; done = record s.done { list = map-id s.done.list i } })
 
   line_same : (p : Program) (line : Seen) → changed_line (by_later d) p line ≡ shift_line p d line
   line_same p line = grind arith
@@ -156,4 +146,4 @@ module _ (d : By) where
       next p (shift d s) e ≡ shift_next p d (next p s e)
   next_later p s e can fits =
       ap₂ (next p) (sym (changed_same s)) (sym (event_same (by_later d) (λ v. refl) e))
-      ∙ next_exact (by_later d) p s (hides_later p s can) (exact p s) e (ticks s e fits) ∙ next_same p (next p s e)
+      ∙ next_exact (by_later d) p s (exact p s) (hides_later p s can) (whole_later p s) e (ticks s e fits) ∙ next_same p (next p s e)

@@ -1,15 +1,15 @@
 -- States with the same form by their names go on alike.
-use Rattle.uv_slots.proofs.Names.{◌≡◌, ℕ, List, length, Option, refl, ap, sym, ◌∙◌, arith, Event, Seen, Program, State, Moves}
+use Rattle.uv_slots.proofs.Names.{◌≡◌, ℕ, List, length, Option, ap, sym, ◌∙◌, arith, Event, Seen, Program, State, Moves}
 use Rattle.std.proofs.Common.{subst}
 use Rattle.std.specs.Prelude.{option_map, ◌≤◌}
-use Rattle.uv_model.specs.Next.{Next, Refuses, next}
+use Rattle.uv_model.specs.Next.{Next, next}
 use Rattle.uv_slots.specs.Arranged.{arranged, arranged_line, arranged_next, arranged_slots}
 use Rattle.uv_slots.specs.NamedForm.{named_order, named_form, IsTidy, TakesAlike}
 use Rattle.uv_slots.proofs.Orders.{Fits}
 use Rattle.uv_slots.proofs.Arranging.{next_arranged}
 use Rattle.uv_slots.proofs.Whole.{IsWhole, tidy_whole}
 use Rattle.uv_slots.proofs.Twice.{order_moved, form_whole}
-use Rattle.uv_slots.proofs.Kept.{StaysKept}
+use Rattle.uv_alike.proofs.Kept.{StaysKept}
 use Rattle.uv_slots.proofs.Grows.{HasUsed, next_grows}
 use Rattle.uv_slots.proofs.Moved.{whole_on, whole_back}
 

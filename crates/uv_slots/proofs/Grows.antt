@@ -1,10 +1,10 @@
 -- No step makes the slots fewer that were ever used.
-use Rattle.uv_slots.proofs.Names.{ℕ, List, [], ◌∷◌, length, ◌==◌, slice_set, arith, Id, Event, Slot, Slots, Content, Named, Program, State, arena_size, taken_from, freed}
+use Rattle.uv_slots.proofs.Names.{ℕ, List, length, slice_set, arith, Id, Event, Slot, Slots, Content, Named, Program, State, taken_from, freed}
 use Rattle.std.proofs.lemmas.Bool.{cond_both}
 use Rattle.std.proofs.lemmas.Grind.{elements}
 use Rattle.std.specs.Prelude.{◌≤◌}
 use Rattle.uv_model.specs.Next.{next}
-use Rattle.uv_slots.proofs.Kept.{StaysKept, next_kept}
+use Rattle.uv_alike.proofs.Kept.{StaysKept, next_kept}
 
 -- there are as many at least
 abbrev pub HasUsed : ℕ → List Named → Slots Content → Type 0
@@ -20,4 +20,4 @@ freed_grows : (n last : ℕ) (id : Id) (a : Slots Content) → n ≤ length a.sl
 freed_grows n last id a h = grind (arith, cond_both, set_grows)
 
 pub next_grows : (p : Program) (n : ℕ) (s : State) (e : Event) → n ≤ length s.arena.slots → StaysKept (HasUsed n) (next p s e)
-next_grows p n s e h = next_kept p (λ v. Unit {0}) (HasUsed n) s (search (set_grows, taken_grows, freed_grows)) e h
+next_grows p n s e h = next_kept p (λ v. Unit {0}) (λ n. Unit {0}) (HasUsed n) s (search (set_grows, taken_grows, freed_grows)) e h

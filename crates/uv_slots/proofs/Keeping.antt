@@ -1,5 +1,5 @@
 -- What is asked of a state for its names to be buried, each step keeps.
-use Rattle.uv_slots.proofs.Names.{List, None, Option, Some, [], ap, arith, length, refl, slice_set, suc, sym, true, zero, ℕ, ◌+◌, ◌∙◌, ◌∷◌, ◌≡◌, Event, Id, Seen, Moves, State, named, Slots, freed, held, next_free, next_id, taken, taken_from, Named, Program, arena_size, Content}
+use Rattle.uv_slots.proofs.Names.{List, Option, Some, [], arith, length, refl, slice_set, suc, sym, true, zero, ℕ, ◌+◌, ◌∙◌, ◌∷◌, ◌≡◌, Event, Id, Seen, Moves, State, named, Slots, freed, held, next_free, next_id, taken, taken_from, Named, Program, arena_size, Content}
 use Rattle.std.specs.Prelude.{option_map, ◌≤◌, ◌⊎◌}
 use Rattle.std.proofs.Common.{subst, inl, inr}
 use Rattle.std.proofs.lemmas.Grind.{elements}
@@ -10,10 +10,10 @@ use Rattle.uv_model.specs.After.{after, goes_on, state_of}
 use Rattle.uv_model.specs.State.{fresh}
 use Rattle.uv_model.specs.Next.{Next, Refuses, next}
 use Rattle.uv_slots.specs.Arranged.{times}
-use Rattle.uv_slots.specs.Buried.{buried_by, buried_id, buried, is_past, CanBury}
+use Rattle.uv_slots.specs.Buried.{buried_id, buried, is_past, CanBury}
 use Rattle.uv_slots.proofs.Buries.{named_buried, turned_past, made_past, freed_past, dead_gone}
-use Rattle.uv_slots.proofs.Kept.{StaysKept}
-use Rattle.uv_slots.proofs.Walked.{IsKept, next_kept}
+use Rattle.uv_alike.proofs.Kept.{StaysKept}
+use Rattle.uv_alike.proofs.Walked.{IsKept, next_kept}
 
 -- ---- the slots
 

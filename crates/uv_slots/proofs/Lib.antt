@@ -7,12 +7,10 @@ pub mod Arranging
 mod Naming
 pub mod Whole
 pub mod Twice
-pub mod Kept
 pub mod Grows
 pub mod Moved
 mod Alike
 mod Named
 pub mod Reached
-mod Walked
 pub mod Buries
 pub mod Keeping

@@ -1,20 +1,19 @@
 -- Names in another order, as a change: names that are alike may change places.
-use Rattle.uv_slots.proofs.Names.{◌≡◌, ◌∙◌, ℕ, zero, suc, ◌+◌, ◌<◌, List, [], ◌∷◌, length, drop, arith, refl, ap, ap₂, sym, Bool, true, false, Option, Some, None, list_any, slice_get, slice_set, nat_lt, if◌then◌else◌, Id, Var, Slot, Content, State, Program, HandleRecord, Named, named, with_named, live, live_id, unbound, lines_in, CallbackLine, MainOp, Op, Body, Run, Place, Main, Running, Seen, Event, Loop, Take, Finish, Cancel, Send, Io, Tick, Callback, Moves, arena_size, held, Stage, Poll}
-use Rattle.std.specs.Prelude.{◌≤◌, ◌||◌, map, option_map, unwrap_or, is_some}
-use Rattle.std.proofs.lemmas.List.{drop-map, map-id}
+use Rattle.uv_slots.proofs.Names.{if◌then◌else◌, ◌≡◌, ◌∙◌, ℕ, zero, suc, ◌+◌, List, [], ◌∷◌, length, drop, arith, refl, ap, sym, Bool, Option, Some, None, list_any, slice_get, slice_set, nat_lt, Id, Var, Slot, Content, State, Program, Named, named, live, live_id, unbound, lines_in, CallbackLine, Event, Take, Finish, Tick, Callback, arena_size, held}
+use Rattle.std.specs.Prelude.{map, option_map, unwrap_or, is_some}
+use Rattle.std.proofs.lemmas.List.{drop-map}
 use Rattle.std.proofs.lemmas.Option.{slice_get-map}
-use Rattle.uv_records.specs.Names as names
 use Rattle.uv_script.specs.Program.{is_for, next_line}
 use Rattle.uv_work.specs.declared.content.Content.TheVariants as content
 use Rattle.uv_model.specs.Content.{content_keeps, content_pends, is_used}
 use Rattle.uv_model.specs.Next as steps
-use Rattle.uv_model.specs.Next.{Next, next}
-use Rattle.uv_slots.specs.Arranged.{IsOrder, place_of, arranged_slots}
+use Rattle.uv_model.specs.Next.{next}
+use Rattle.uv_slots.specs.Arranged.{place_of, arranged_slots}
 use Rattle.uv_slots.proofs.Orders.{Fits, get_arranged, set_arranged}
 use Rattle.uv_slots.specs.Alike.{moved_var, moved_content, by_names, AreAlike}
-use Rattle.uv_alike.specs.Changed.{Change, Comes, changed, changed_content, changed_live, changed_callback, changed_main, changed_body, changed_event, changed_next}
-use Rattle.uv_alike.specs.Hides.{Hides, IsExact}
-use Rattle.uv_alike.proofs.Same.{option_same, any_same, runs_same}
+use Rattle.uv_alike.specs.Changed.{Comes, changed, changed_content, changed_live, changed_callback, changed_body, changed_event, changed_next}
+use Rattle.uv_alike.specs.Hides.{Hides, IsWhole, IsExact}
+use Rattle.uv_alike.proofs.Same.{any_same, runs_same}
 use Rattle.uv_alike.proofs.Mapped.{slot_of, held_mapped, turns_mapped, finds_mapped, takes_mapped, frees_mapped, live_mapped}
 use Rattle.uv_alike.proofs.Exact.{next_exact}
 
@@ -49,11 +48,8 @@ module _ (o : List ℕ) where
       let at = fits p s s alike refl in
       record {
         same = λ a b. refl;
-        holds = λ x. held_mapped f s.arena.slots x ∙ ap (λ g. option_map g (held s.arena.slots x)) (λ i y. content_same y i);
-        turns = λ x old new e. rw (sym (content_same new)) (turns_mapped f s.arena.slots x new);
         finds = finds_mapped f s.arena;
         takes = λ x new e. rw (sym (content_same new)) (takes_mapped f x new s.arena);
-        frees = λ x old e. frees_mapped f (arena_size p).last_generation x s.arena;
         keeps = keeps content_keeps (λ x. grind arith) s;
         pends = keeps content_pends (λ x. grind arith) s;
         uses = keeps is_used (λ x. grind arith) s;
@@ -68,15 +64,27 @@ module _ (o : List ℕ) where
         fires = λ t e due. refl;
         falls = λ t e due. refl;
         waits = λ n. refl;
-        over = λ n. refl;
-        clocks = refl;
         known = λ v. in_range (arranged_slots o s.names) (place_of o v.0) ∙ ap is_some (get_arranged o s.names v.0 at) ∙ sym (in_range s.names v.0);
-        lives = λ v. ap (λ (n : Named). live_id (changed (by_names o) s) n.id) (named_moved s v at)
-            ∙ live_mapped f s (changed (by_names o) s) (named s v).id refl ∙ live_same (live s v);
         binds = λ v x e. ap (λ (n : Named). slice_set (arranged_slots o s.names) (place_of o v.0) (record n { id = Some x })) (named_moved s v at)
             ∙ set_arranged o s.names v.0 (record (named s v) { id = Some x }) at;
         lines = λ kind v n. ap (λ ls. slice_get ls n) (alike.lines kind v) ∙ slice_get-map (changed_callback (by_names o)) (lines_in p kind v) n;
         main = alike.main;
+      }
+
+  whole_names : (p : Program) (s : State) → AreAlike p o s → IsWhole (by_names o) p s
+  whole_names p s alike =
+      let f = moved_content o in
+      let at = fits p s s alike refl in
+      record {
+        holds = λ x. held_mapped f s.arena.slots x ∙ ap (λ g. option_map g (held s.arena.slots x)) (λ i y. content_same y i);
+        turns = λ x old new e. rw (sym (content_same new)) (turns_mapped f s.arena.slots x new);
+        frees = λ x old e. frees_mapped f (arena_size p).last_generation x s.arena;
+        over = λ n. refl;
+        clocks = refl;
+        lives = λ v. ap (λ (n : Named). live_id (changed (by_names o) s) n.id) (named_moved s v at)
+            ∙ live_mapped f s (changed (by_names o) s) (named s v).id refl ∙ live_same (live s v);
+        queued = λ ids. refl;
+        ended = λ ids. refl;
       }
 
   -- ---- a step
@@ -106,7 +114,7 @@ module _ (o : List ℕ) where
   -- a step from the state whose alike names have changed places is the step from the state itself, so changed
   pub next_moved : (p : Program) (s : State) (e : Event) → AreAlike p o s →
       next p (changed (by_names o) s) (changed_event (by_names o) e) ≡ changed_next (by_names o) p (next p s e)
-  next_moved p s e alike = next_exact (by_names o) p s (hides_names p s alike) (exact p s alike) e (by e) where
+  next_moved p s e alike = next_exact (by_names o) p s (exact p s alike) (hides_names p s alike) (whole_names p s alike) e (by e) where
     by : (e : Event) → Comes (by_names o) s e
     by (Tick ms) = (refl, refl)
     by (Take k) = runs_same s k

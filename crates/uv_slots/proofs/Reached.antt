@@ -1,14 +1,15 @@
 -- Each state that few steps lead to is tidy.
-use Rattle.uv_slots.proofs.Names.{◌≡◌, ℕ, suc, ◌+◌, ◌<◌, List, [], ◌∷◌, length, Some, None, refl, ap, arith, Id, Var, Event, Content, Program, State, Moves, arena_size, held, unbound}
+use Rattle.uv_slots.proofs.Names.{◌≡◌, ℕ, suc, ◌+◌, ◌<◌, List, [], ◌∷◌, length, Some, None, ap, arith, Id, Var, Event, Content, Program, State, arena_size, held, unbound}
 use Rattle.std.proofs.lemmas.Grind.{elements}
 use Rattle.std.specs.Prelude.{◌≤◌, option_map, replicate}
 use Rattle.uv_model.specs.State.{fresh}
 use Rattle.uv_model.specs.After.{after, goes_on, state_of}
-use Rattle.uv_model.specs.Next.{Next, Refuses, next}
+use Rattle.uv_model.specs.Next.{Next, next}
 use Rattle.uv_model.proofs.Bounded.{next_bounded}
 use Rattle.uv_model.proofs.Counting.{Counts, IsBounded, StaysBounded, slot_freed}
-use Rattle.uv_slots.specs.NamedForm.{name_in, AreDeclared, IsTidy}
-use Rattle.uv_slots.proofs.Kept.{StaysKept, next_kept}
+use Rattle.uv_alike.specs.Contents.{name_in}
+use Rattle.uv_slots.specs.NamedForm.{AreDeclared, IsTidy}
+use Rattle.uv_alike.proofs.Kept.{StaysKept, next_kept}
 use Rattle.uv_slots.proofs.Named.{Agree, id_named, is_there, counted_agree, turned_agree, made_agree, freed_agree}
 
 abbrev count_of : Program → ℕ
@@ -29,11 +30,12 @@ held_freed n s id x h e =
 
 next_agree : (p : Program) (n : ℕ) (s : State) (e : Event) → AreDeclared p → n < (arena_size p).last_generation → IsBounded n s →
     Agree (count_of p) s.names s.arena → StaysKept (Agree (count_of p)) (next p s e)
-next_agree p n s e declared few h k = next_kept p (λ v. v.0 < count_of p) (Agree (count_of p)) s (record {
+next_agree p n s e declared few h k = next_kept p (λ v. v.0 < count_of p) (λ n. Unit {0}) (Agree (count_of p)) s (record {
   may = declared;
+  repeats = λ at o n is sets_it. tt;
   counted = counted_agree (count_of p);
-  turned = turned_agree (count_of p);
-  made = made_agree (count_of p);
+  turned = λ ns a id x y holds same again. turned_agree (count_of p) ns a id x y holds same;
+  made = λ ns a v id x may same first. made_agree (count_of p) ns a v id x may same;
   freed = λ id x holds now. freed_agree (count_of p) (arena_size p).last_generation s.names s.arena id x holds
       (λ last. (let l = held_freed n s id x h holds in omega (arith, l, last, few))) now;
 }) e k

@@ -1,19 +1,17 @@
 -- Slots and ids that are named anew are a change of the state: a step goes as it does.
-use Rattle.uv_slots.proofs.Names.{◌≡◌, ◌∙◌, ap, ap₂, sym, arith, List, Option, Some, None, refl, Id, Var, Content, State, Program, HandleRecord, Named, Body, Stage, Entry, Pending, Walking, Poll, Polled, Done, DoneUnwoken, Closing, Timers, Place, Main, Running, Run, Seen, Event, Callback, Moves, held, named, with_named, slice_get, counted, count_of, refl}
+use Rattle.uv_slots.proofs.Names.{◌≡◌, ◌∙◌, ap, ap₂, sym, arith, Option, Some, None, refl, Id, Content, State, Program, Body, Place, Main, Running, Run, Seen, Event, Moves, held, named, slice_get, refl}
 use Rattle.std.specs.Prelude.{map, option_map}
 use Rattle.std.proofs.lemmas.List.{length-map, map-set}
 use Rattle.std.proofs.lemmas.Option.{slice_get-map}
 use Rattle.uv_ids.specs.declared.event.Event.TheVariants.{Take, Finish, Tick}
 use Rattle.uv_work.specs.declared.content.Content.TheVariants as content
 use Rattle.uv_model.specs.Content.{content_keeps, content_pends, is_used}
-use Rattle.uv_model.specs.Next as steps
 use Rattle.uv_model.specs.Next.{Next, Refuses, next}
-use Rattle.uv_script.specs.Program.{op_at}
 use Rattle.uv_slots.proofs.Relabel.{Relabel, CanRelabel, relabeled, relabeled_named, relabeled_line, relabeled_next}
-use Rattle.uv_slots.proofs.RelabeledSlots.{live_relabeled, named_relabeled, with_named_relabeled}
-use Rattle.uv_alike.specs.Changed.{Change, changed, changed_content, changed_live, changed_body, changed_run, changed_place, changed_stage, changed_line, changed_event, changed_next, Comes}
-use Rattle.uv_alike.specs.Hides.{Hides, IsExact}
-use Rattle.uv_alike.proofs.Same.{option_same, lines_same, main_same, event_same}
+use Rattle.uv_slots.proofs.RelabeledSlots.{live_relabeled, named_relabeled}
+use Rattle.uv_alike.specs.Changed.{Change, changed, changed_content, changed_live, changed_body, changed_run, changed_place, changed_line, changed_next, Comes}
+use Rattle.uv_alike.specs.Hides.{Hides, IsWhole, IsExact}
+use Rattle.uv_alike.proofs.Same.{option_same, lines_same, main_same, event_same, stage_same}
 use Rattle.uv_alike.proofs.Exact.{next_exact}
 
 abbrev pub by_relabel : Relabel → Change
@@ -29,7 +27,9 @@ by_relabel o = record {
   start = λ n. n;
   names = map (relabeled_named o);
   count = λ n. n;
+  waits = map o.id;
   runs = map (option_map o.id);
+  ends = map o.id;
 }
 
 module _ (o : Relabel) where
@@ -44,11 +44,8 @@ module _ (o : Relabel) where
   hides_relabel : (p : Program) (s : State) → CanRelabel o p s → Hides (by_relabel o) p s
   hides_relabel p s can = record {
     same = o.same;
-    holds = λ x. o.holds s.arena x can.fits ∙ sym (option_same _ content_same (held s.arena.slots x));
-    turns = λ x old new e. rw (content_same new) (o.turns s.arena x new can.fits);
     finds = o.finds s.arena can.fits;
     takes = λ x new e. rw (content_same new) (o.takes s.arena x new can.fits);
-    frees = can.frees;
     keeps = o.any s.arena content_keeps can.fits;
     pends = o.any s.arena content_pends can.fits;
     uses = o.any s.arena is_used can.fits;
@@ -63,13 +60,22 @@ module _ (o : Relabel) where
     fires = λ t e due. refl;
     falls = λ t e due. refl;
     waits = λ n. refl;
-    over = λ n. refl;
-    clocks = refl;
     known = λ v. search length-map;
-    lives = λ v. live_relabeled o s v can.fits ∙ live_same _;
     binds = λ v x e. search (named_relabeled, map-set);
     lines = λ kind v n. lines_same (by_relabel o) (λ v. refl) _;
     main = λ line e. main_same (by_relabel o) (λ v. refl) _;
+  }
+
+  whole_relabel : (p : Program) (s : State) → CanRelabel o p s → IsWhole (by_relabel o) p s
+  whole_relabel p s can = record {
+    holds = λ x. o.holds s.arena x can.fits ∙ sym (option_same _ content_same (held s.arena.slots x));
+    turns = λ x old new e. rw (content_same new) (o.turns s.arena x new can.fits);
+    frees = can.frees;
+    over = λ n. refl;
+    clocks = refl;
+    lives = λ v. live_relabeled o s v can.fits ∙ live_same _;
+    queued = λ ids. refl;
+    ended = λ ids. refl;
   }
 
   -- ---- a step
@@ -77,12 +83,8 @@ module _ (o : Relabel) where
   body_same : (x : Option Body) → option_map (changed_body (by_relabel o)) x ≡ x
   body_same x = option_same _ (λ b. refl) x
 
-  stage_same : (stage : Stage) → changed_stage (by_relabel o) stage ≡ stage
-  stage_same (Poll deadline) = ap Poll (option_same _ (λ n. refl) deadline)
-  stage_same stage = grind arith
-
   run_same : (run : Run) → changed_run (by_relabel o) run ≡ run
-  run_same run = λ i. record run { stage = stage_same run.stage i; body = body_same run.body i }
+  run_same run = λ i. record run { stage = stage_same (by_relabel o) (λ n. refl) run.stage i; body = body_same run.body i }
 
   place_same : (place : Place) → changed_place (by_relabel o) place ≡ place
   place_same (Main line) = refl
@@ -111,7 +113,7 @@ module _ (o : Relabel) where
   next_again : (p : Program) (s : State) (e : Event) → CanRelabel o p s → next p (relabeled o s) e ≡ relabeled_next o (next p s e)
   next_again p s e can =
       ap₂ (next p) (sym (changed_same s)) (sym (event_same (by_relabel o) (λ v. refl) e))
-      ∙ next_exact (by_relabel o) p s (hides_relabel p s can) (exact p s) e (by e) ∙ next_same p (next p s e)
+      ∙ next_exact (by_relabel o) p s (exact p s) (hides_relabel p s can) (whole_relabel p s can) e (by e) ∙ next_same p (next p s e)
     where
       by : (e : Event) → Comes (by_relabel o) s e
       by (Tick ms) = (refl, refl)

@@ -1,6 +1,6 @@
 -- Names that are alike: those of requests, or of handles, whose callbacks do the same and of which nothing else speaks. The names of a state
 -- may then stand in another order.
-use Rattle.std.specs.Prelude.{◌≡◌, ◌≤◌, ℕ, List, length, map, Option, Some, option_map, slice_get}
+use Rattle.std.specs.Prelude.{◌≡◌, ◌≤◌, ℕ, List, length, map, option_map, slice_get}
 use Rattle.uv_ids.specs.declared.id.Var.{Var}
 use Rattle.uv_ids.specs.declared.seen.Callback.{Callback}
 use Rattle.uv_records.specs.declared.slot.Slot.{Slot}
@@ -36,7 +36,9 @@ by_names o = record {
   start = λ n. n;
   names = arranged_slots o;
   count = λ n. n;
+  waits = map (λ x. x);
   runs = λ rs. rs;
+  ends = map (λ x. x);
 }
 
 -- names that are alike where the state stands: a name has the lines of the one whose place it takes, so renamed, and the main program's

@@ -11,9 +11,9 @@ use Rattle.uv_records.specs.Slots.{held}
 use Rattle.uv_script.specs.Program.{Program, op_at, op_name}
 use Rattle.uv_script.specs.declared.op.Op.{Op}
 use Rattle.uv_work.specs.declared.content.Content.{Content}
-use Rattle.uv_work.specs.declared.content.Content.TheVariants as content
 use Rattle.uv_model.specs.State.{State, named}
 use Rattle.uv_model.specs.Next.{Next, Moves}
+use Rattle.uv_alike.specs.Contents.{name_in}
 use Rattle.uv_slots.specs.Arranged.{times, arranged, arranged_line}
 
 -- the slot of what a name is bound to, if it holds that still
@@ -34,11 +34,6 @@ abbrev pub named_form : State → State
 named_form s = arranged (named_order s) s
 
 -- ---- what holds of each state that steps lead to
-
--- the name of the handle or the request
-abbrev pub name_in : Content → Var
-name_in (content.Handle h) = h.name
-name_in (content.Request r) = r.name
 
 -- how often a number stands in the free list, by its slot: once if it is empty
 abbrev pub vacant : Option Content → ℕ

@@ -18,7 +18,7 @@ use Rattle.uv_model.specs.Ids.{same_id}
 use Rattle.uv_order.specs.Active.{has_id, run_ids, Has}
 use Rattle.uv_shift.specs.Shift.{By}
 use Rattle.uv_shift.specs.Earliest.{back, base, earlier}
-use Rattle.uv_shift.specs.Retimed.{Retiming, retimed_content, retimed_entry, retimed_slot}
+use Rattle.uv_shift.specs.Retimed.{Retiming, retimed_entry, retimed_slot}
 use Rattle.uv_generations.specs.Renamed.{Renaming, rename, renamed_entry, renamed_named, renamed_slots, renamed_walk}
 use Rattle.uv_generations.specs.Youngest.{IsInSlot, freed_less, least_bound, least_of, or_bound, surplus}
 use Rattle.uv_generations.specs.More.{Frees}
@@ -26,7 +26,8 @@ use Rattle.uv_names.specs.Counts.{capped, capped_name}
 use Rattle.uv_names.specs.Stale.{staled, staled_by, staled_id, staled_name}
 use Rattle.uv_slots.specs.Arranged.{arranged, arranged_entry, arranged_id, arranged_named, arranged_slots, arranged_walk, picked, place_of, times}
 use Rattle.uv_slots.specs.Buried.{buried, buried_by, buried_id, buried_name, dead_id}
-use Rattle.uv_slots.specs.NamedForm.{name_in, named_order, slots_bound, vacancies}
+use Rattle.uv_alike.specs.Contents.{name_in}
+use Rattle.uv_slots.specs.NamedForm.{named_order, slots_bound, vacancies}
 use Rattle.uv_slots.proofs.Orders.{Fits, get_arranged, length_arranged, place_behind}
 use Rattle.uv_slots.proofs.Whole.{IsWhole, tidy_whole}
 use Rattle.uv_workers.specs.Workers.{ordered}

@@ -15,7 +15,7 @@ use Rattle.uv_shift.specs.Shift.{By}
 use Rattle.uv_shift.specs.Earliest.{base, earlier}
 use Rattle.uv_shift.specs.Retimed.{retimed_content, retimed_place}
 use Rattle.uv_names.specs.Counts.{capped_calls, capped_place}
-use Rattle.uv_slots.specs.NamedForm.{name_in}
+use Rattle.uv_alike.specs.Contents.{name_in}
 use Rattle.uv_workers.specs.Workers.{ordered}
 
 -- ---- names
