@@ -1,13 +1,15 @@
--- The lines behind `begin`: what may come from outside, how far the search goes, and what it looks for.
-use Rattle.std.specs.Prelude.{◌≡◌, ◌≢◌, ℕ, ◌≤◌, Bool, true, false, List, [], ◌∷◌, Some, None, codes}
+-- The lines behind `begin`: what may come from outside, how far the search goes, and what it looks for. Each form of a line is a row here, by its
+-- fields in their order; a line says what the first row says that fits it.
+use Rattle.std.specs.Prelude.{ℕ, Bool, true, false, ◌==◌, ◌||◌, ◌&&◌, List, [], ◌∷◌, drop, nat_le, Option, Some, None, option_map, option_and_then, if◌then◌else◌, codes}
+use Rattle.std.specs.Option.{option_or}
+use Rattle.std.specs.Str.{bytes_eq}
 use Rattle.uv_ids.specs.declared.id.Var.{Var}
-use Rattle.uv_ids.specs.declared.code.Code as ids
 use Rattle.uv_ids.specs.declared.event.Event.{Event}
 use Rattle.uv_ids.specs.declared.event.Event.TheVariants as event
-use Rattle.uv_ids.specs.declared.phase.Phase.{Phase}
-use Rattle.uv_ids.specs.Words.{code_word, phase_word}
-use Rattle.uv_script.specs.Lines.{fields_of, IsLine, IsSkipped}
-use Rattle.uv_script.specs.Words.{IsNumber, IsDeclared}
+use Rattle.uv_ids.specs.Words.{code_named, phase_named}
+use Rattle.uv_script.specs.Lines.{fields_of}
+use Rattle.uv_script.specs.Checks.{is_line, is_skipped, number_of}
+use Rattle.uv_script.specs.Reading.{place_of}
 use Rattle.uv_asking.specs.declared.asking.Offer.{Offer}
 use Rattle.uv_asking.specs.declared.asking.Offer.TheVariants.{Step, SendDuring, Wait, WaitFor}
 use Rattle.uv_asking.specs.declared.asking.Which.{Which}
@@ -20,95 +22,220 @@ use Rattle.uv_asking.specs.declared.part.Said.{Said}
 use Rattle.uv_asking.specs.declared.part.Said.TheVariants.{Nothing, One, Bad}
 use Rattle.uv_asking.specs.Limits.{MOST_COUNT, MOST_MS, MOST_WORKER}
 
--- a number of this range, as it is written
-pub record IsWithin (low high : ℕ) (text : List ℕ) (n : ℕ) : Type 0 where
-  pub number : IsNumber text n
-  pub first : low ≤ n
-  pub last : n ≤ high
+-- ---- fields, one after another
 
--- the two fields behind `may` of an offer that is counted, where these names are declared
-pub data IsOffer (names : List (List ℕ)) (what argument : List ℕ) : Offer → Type 0 where
-  send : (v : Var) → what ≡ codes "send" → IsDeclared names argument v → IsOffer names what argument (Step (event.Send v))
-  cancel : (v : Var) → what ≡ codes "cancel" → IsDeclared names argument v → IsOffer names what argument (Step (event.Cancel v))
-  io : (v : Var) → what ≡ codes "io" → IsDeclared names argument v → IsOffer names what argument (Step (event.Io v))
-  tick : (ms : ℕ) → what ≡ codes "tick" → IsWithin 1 MOST_MS argument ms → IsOffer names what argument (Step (event.Tick ms))
-  wait : (ms : ℕ) → what ≡ codes "wait" → IsWithin 1 MOST_MS argument ms → IsOffer names what argument (WaitFor ms)
+-- what the first field is read as
+abbrev pub first_as : {A : Type 0} → (List ℕ → Option A) → List (List ℕ) → Option A
+first_as read [] = None
+first_as read (field ∷ rest) = read field
 
--- the two fields of an event that came in a recording, and whether it is a wait
-pub data IsCame (names : List (List ℕ)) (what argument : List ℕ) : Event × Bool → Type 0 where
-  take : (n : ℕ) → what ≡ codes "take" → IsWithin 0 MOST_WORKER argument n → IsCame names what argument (event.Take n, false)
-  finish : (n : ℕ) → what ≡ codes "finish" → IsWithin 0 MOST_WORKER argument n → IsCame names what argument (event.Finish n, false)
-  outside : (e : Event) → IsOffer names what argument (Step e) → IsCame names what argument (e, false)
-  waited : (ms : ℕ) → IsOffer names what argument (WaitFor ms) → IsCame names what argument (event.Tick ms, true)
+-- that, and what then is read of those behind it
+abbrev pub next : {A B : Type 0} → (List ℕ → Option A) → List (List ℕ) → (A → List (List ℕ) → Option B) → Option B
+next read fields more = option_and_then (λ x. more x (drop 1 fields)) (first_as read fields)
 
--- the word for these callbacks of a name
-abbrev pub which_word : Which → List ℕ
-which_word which.Any = codes "call"
-which_word which.Handle = codes "on"
-which_word which.After = codes "after"
-which_word which.Close = codes "closed"
+-- the same of the first two
+abbrev pub first_two : {A : Type 0} → (List ℕ → List ℕ → Option A) → List (List ℕ) → Option A
+first_two read fields = next Some fields (λ field more. first_as (read field) more)
 
--- it is no word that stands between two names
-abbrev pub IsNoOrder : List ℕ → Type 0
-IsNoOrder word = (word ≢ codes "before") × (word ≢ codes "after")
+abbrev pub next_two : {A B : Type 0} → (List ℕ → List ℕ → Option A) → List (List ℕ) → (A → List (List ℕ) → Option B) → Option B
+next_two read fields more = option_and_then (λ x. more x (drop 1 (drop 1 fields))) (first_two read fields)
 
--- the fields behind `find`, and the question that they are, where these names are declared. Where `before` or `after` is the second of three
--- fields they are that form and no other one, also where a name is called so
-pub data IsQuestion (names fields : List (List ℕ)) : Question → Type 0 where
-  stuck : fields ≡ codes "stuck" ∷ [] → IsQuestion names fields question.Stuck
-  call : (w : Which) (name : List ℕ) (v : Var) → fields ≡ which_word w ∷ name ∷ [] → IsDeclared names name v →
-      IsQuestion names fields (question.Call w v None)
-  code : (c : ids.Code) → fields ≡ codes "code" ∷ code_word c ∷ [] → IsQuestion names fields (question.Code c None)
-  section : (x : Phase) → fields ≡ codes "section" ∷ phase_word x ∷ [] → IsQuestion names fields (question.Section x)
-  -- the poll is a section here
-  poll : fields ≡ codes "section" ∷ codes "poll" ∷ [] → IsQuestion names fields question.Poll
-  never : (name : List ℕ) (v : Var) → fields ≡ codes "never" ∷ name ∷ [] → IsDeclared names name v → IsQuestion names fields (question.Never v)
-  nth_call : (w : Which) (name : List ℕ) (v : Var) (number : List ℕ) (n : ℕ) → fields ≡ which_word w ∷ name ∷ number ∷ [] → IsNoOrder name →
-      IsDeclared names name v → IsWithin 1 MOST_COUNT number n → IsQuestion names fields (question.Call w v (Some n))
-  late : (name : List ℕ) (v : Var) (number : List ℕ) (ms : ℕ) → fields ≡ codes "late" ∷ name ∷ number ∷ [] → IsNoOrder name →
-      IsDeclared names name v → IsWithin 0 MOST_MS number ms → IsQuestion names fields (question.Late v ms)
-  before : (first : List ℕ) (v : Var) (second : List ℕ) (w : Var) → fields ≡ first ∷ codes "before" ∷ second ∷ [] → first ≢ second →
-      IsDeclared names first v → IsDeclared names second w → IsQuestion names fields (question.Before v w)
-  after : (first : List ℕ) (v : Var) (second : List ℕ) (w : Var) → fields ≡ first ∷ codes "after" ∷ second ∷ [] → first ≢ second →
-      IsDeclared names first v → IsDeclared names second w → IsQuestion names fields (question.Behind v w)
-  code_of : (c : ids.Code) (name : List ℕ) (v : Var) → fields ≡ codes "code" ∷ code_word c ∷ codes "of" ∷ name ∷ [] → IsDeclared names name v →
-      IsQuestion names fields (question.Code c (Some v))
+-- no field is left
+abbrev pub at_end : List (List ℕ) → Option (Unit {0})
+at_end [] = Some tt
+at_end (field ∷ rest) = None
 
--- the fields of a line, and what they say, where these names are declared
-pub data IsPart (names fields : List (List ℕ)) : Part → Type 0 where
-  may : (what argument : List ℕ) (o : Offer) (times : List ℕ) (n : ℕ) → fields ≡ codes "may" ∷ what ∷ argument ∷ times ∷ [] →
-      IsOffer names what argument o → IsWithin 1 MOST_COUNT times n → IsPart names fields (Offers (record { offer = o; times = Some n }))
-  may_during : (name : List ℕ) (v : Var) (times : List ℕ) (n : ℕ) (job : List ℕ) (w : Var) →
-      fields ≡ codes "may" ∷ codes "send" ∷ name ∷ times ∷ codes "during" ∷ job ∷ [] → name ≢ job → IsDeclared names name v →
-      IsDeclared names job w → IsWithin 1 MOST_COUNT times n → IsPart names fields (Offers (record { offer = SendDuring v w; times = Some n }))
-  may_wait : fields ≡ codes "may" ∷ codes "wait" ∷ [] → IsPart names fields (Offers (record { offer = Wait; times = None }))
-  may_differ : (number : List ℕ) (k : ℕ) → fields ≡ codes "may" ∷ codes "differ" ∷ number ∷ [] → IsWithin 0 MOST_COUNT number k →
-      IsPart names fields (Differ k)
-  recorded : (polls : List ℕ) (m : ℕ) (steps : List ℕ) (n : ℕ) (what argument : List ℕ) (e : Event) (waits : Bool) →
-      fields ≡ codes "recorded" ∷ polls ∷ steps ∷ what ∷ argument ∷ [] → IsWithin 0 MOST_COUNT polls m → IsWithin 0 MOST_COUNT steps n →
-      IsCame names what argument (e, waits) → IsPart names fields (Recorded (record { event = e; waits = waits; polls = m; steps = n }))
-  takes : (name : List ℕ) (v : Var) (ms : List ℕ) (n : ℕ) → fields ≡ codes "takes" ∷ name ∷ ms ∷ [] → IsDeclared names name v →
-      IsWithin 0 MOST_MS ms n → IsPart names fields (Takes (record { name = v; call = None; ms = n }))
-  takes_once : (name : List ℕ) (v : Var) (call : List ℕ) (k : ℕ) (ms : List ℕ) (n : ℕ) →
-      fields ≡ codes "takes" ∷ name ∷ (64 ∷ call) ∷ ms ∷ [] → IsDeclared names name v → IsWithin 1 MOST_COUNT call k → IsWithin 0 MOST_MS ms n →
-      IsPart names fields (Takes (record { name = v; call = Some k; ms = n }))
-  most_clock : (number : List ℕ) (ms : ℕ) → fields ≡ codes "most" ∷ codes "clock" ∷ number ∷ [] → IsWithin 0 MOST_MS number ms →
-      IsPart names fields (Clock ms)
-  most_states : (number : List ℕ) (n : ℕ) → fields ≡ codes "most" ∷ codes "states" ∷ number ∷ [] → IsWithin 1 MOST_COUNT number n →
-      IsPart names fields (States n)
-  -- `clock` and `states` are the words here, also where a name is called so
-  most_calls : (name : List ℕ) (v : Var) (number : List ℕ) (n : ℕ) → fields ≡ codes "most" ∷ name ∷ number ∷ [] → name ≢ codes "clock" →
-      name ≢ codes "states" → IsDeclared names name v → IsWithin 0 MOST_COUNT number n → IsPart names fields (Calls (record { name = v; calls = n }))
-  full : fields ≡ codes "full" ∷ [] → IsPart names fields Full
-  latest : (name : List ℕ) (v : Var) → fields ≡ codes "find" ∷ codes "latest" ∷ name ∷ [] → IsDeclared names name v → IsPart names fields (Latest v)
-  finds : (rest : List (List ℕ)) (q : Question) → fields ≡ codes "find" ∷ rest → IsQuestion names rest q → IsPart names fields (Finds q)
+abbrev pub ends : {A : Type 0} → List (List ℕ) → A → Option A
+ends fields x = option_map (λ (end : Unit {0}). x) (at_end fields)
 
--- the fields say nothing
-abbrev pub IsNoPart : List (List ℕ) → List (List ℕ) → Type 0
-IsNoPart names fields = (part : Part) → IsPart names fields part → ⊥
+-- ---- what a field is
 
--- how a line is read, where these names are declared: empty lines and comments say nothing, and what is no part is bad
-pub data Says (names : List (List ℕ)) (line : List ℕ) : Said → Type 0 where
-  nothing : IsLine line → IsSkipped line → Says names line Nothing
-  one : (part : Part) → IsLine line → IsPart names (fields_of line) part → Says names line (One part)
-  bad : (IsLine line → IsSkipped line → ⊥) → (IsLine line → IsNoPart names (fields_of line)) → Says names line Bad
+-- this word
+abbrev pub is_word : List ℕ → List ℕ → Option (Unit {0})
+is_word word field = if bytes_eq field word then Some tt else None
+
+-- a number of this range
+abbrev pub if_within : ℕ → ℕ → ℕ → Option ℕ
+if_within low high n = if nat_le low n && nat_le n high then Some n else None
+
+abbrev pub number_in : ℕ → ℕ → List ℕ → Option ℕ
+number_in low high field = option_and_then (if_within low high) (number_of field)
+
+-- the number of a call, `@K`
+abbrev pub call_in : List ℕ → Option ℕ
+call_in [] = None
+call_in (b ∷ bs) = if b == 64 then number_in 1 MOST_COUNT bs else None
+
+-- the callbacks of a name
+abbrev pub which_named : List ℕ → Option Which
+which_named field =
+    if bytes_eq field (codes "call") then Some which.Any
+    else if bytes_eq field (codes "on") then Some which.Handle
+    else if bytes_eq field (codes "after") then Some which.After
+    else if bytes_eq field (codes "closed") then Some which.Close
+    else None
+
+-- a name that stands alone: not the word between two of them, also where a name is called so
+abbrev pub lone_name : List (List ℕ) → List ℕ → Option Var
+lone_name names field = if bytes_eq field (codes "before") || bytes_eq field (codes "after") then None else place_of names field
+
+-- a name that is bounded: `clock` and `states` are the words here, also where a name is called so
+abbrev pub bounded_name : List (List ℕ) → List ℕ → Option Var
+bounded_name names field = if bytes_eq field (codes "clock") || bytes_eq field (codes "states") then None else place_of names field
+
+-- the two fields of an offer that is counted
+abbrev pub offer_of : List (List ℕ) → List ℕ → List ℕ → Option Offer
+offer_of names what argument =
+    if bytes_eq what (codes "send") then option_map (λ (v : Var). Step (event.Send v)) (place_of names argument)
+    else if bytes_eq what (codes "cancel") then option_map (λ (v : Var). Step (event.Cancel v)) (place_of names argument)
+    else if bytes_eq what (codes "io") then option_map (λ (v : Var). Step (event.Io v)) (place_of names argument)
+    else if bytes_eq what (codes "tick") then option_map (λ (ms : ℕ). Step (event.Tick ms)) (number_in 1 MOST_MS argument)
+    else if bytes_eq what (codes "wait") then option_map (λ (ms : ℕ). WaitFor ms) (number_in 1 MOST_MS argument)
+    else None
+
+-- those of an event that came in a recording, and whether it is a wait
+abbrev pub came_by : Option Offer → Option (Event × Bool)
+came_by (Some (Step e)) = Some (e, false)
+came_by (Some (WaitFor ms)) = Some (event.Tick ms, true)
+came_by _ = None
+
+abbrev pub came_of : List (List ℕ) → List ℕ → List ℕ → Option (Event × Bool)
+came_of names what argument =
+    if bytes_eq what (codes "take") then option_map (λ (n : ℕ). (event.Take n, false)) (number_in 0 MOST_WORKER argument)
+    else if bytes_eq what (codes "finish") then option_map (λ (n : ℕ). (event.Finish n, false)) (number_in 0 MOST_WORKER argument)
+    else came_by (offer_of names what argument)
+
+-- ---- the rows of `find`
+
+-- the fields behind `find`
+abbrev pub find : {A : Type 0} → List (List ℕ) → (List (List ℕ) → Option A) → Option A
+find fields more = next (is_word (codes "find")) fields (λ is rest. more rest)
+
+abbrev pub stuck : List (List ℕ) → Option Question
+stuck fields = find fields (λ more. next (is_word (codes "stuck")) more (λ is more. ends more question.Stuck))
+
+abbrev pub code : List (List ℕ) → Option Question
+code fields = find fields (λ more. next (is_word (codes "code")) more (λ is more. next code_named more (λ c more. ends more (question.Code c None))))
+
+-- the poll is a section here
+abbrev pub poll : List (List ℕ) → Option Question
+poll fields = find fields (λ more. next (is_word (codes "section")) more (λ is more. next (is_word (codes "poll")) more
+    (λ is more. ends more question.Poll)))
+
+abbrev pub section : List (List ℕ) → Option Question
+section fields = find fields (λ more. next (is_word (codes "section")) more (λ is more. next phase_named more
+    (λ x more. ends more (question.Section x))))
+
+module _ (names fields : List (List ℕ)) where
+  -- `call NAME`, and so `on`, `after`, `closed`
+  abbrev pub call : Option Question
+  call = find fields (λ more. next which_named more (λ w more. next (place_of names) more (λ v more. ends more (question.Call w v None))))
+
+  abbrev pub nth_call : Option Question
+  nth_call = find fields (λ more. next which_named more (λ w more. next (lone_name names) more (λ v more. next (number_in 1 MOST_COUNT) more
+      (λ n more. ends more (question.Call w v (Some n))))))
+
+  abbrev pub late : Option Question
+  late = find fields (λ more. next (is_word (codes "late")) more (λ is more. next (lone_name names) more (λ v more. next (number_in 0 MOST_MS) more
+      (λ ms more. ends more (question.Late v ms)))))
+
+  abbrev pub code_of : Option Question
+  code_of = find fields (λ more. next (is_word (codes "code")) more (λ is more. next code_named more (λ c more. next (is_word (codes "of")) more
+      (λ is more. next (place_of names) more (λ v more. ends more (question.Code c (Some v)))))))
+
+  abbrev pub never : Option Question
+  never = find fields (λ more. next (is_word (codes "never")) more (λ is more. next (place_of names) more
+      (λ v more. ends more (question.Never v))))
+
+  -- two names with a word between them, and not one twice
+  abbrev pub pair : List ℕ → Option (Var × Var)
+  pair word = find fields (λ more. next (place_of names) more (λ v more. next (is_word word) more (λ is more. next (place_of names) more
+      (λ w more. if v.0 == w.0 then None else ends more (v, w)))))
+
+  abbrev pub before : Option Question
+  before = option_map (λ (t : Var × Var). question.Before t.0 t.1) (pair (codes "before"))
+
+  abbrev pub behind : Option Question
+  behind = option_map (λ (t : Var × Var). question.Behind t.0 t.1) (pair (codes "after"))
+
+  abbrev pub words : Option Question
+  words = option_or (option_or (option_or (option_or (stuck fields) (code fields)) (poll fields)) (section fields)) code_of
+
+  abbrev pub callbacks : Option Question
+  callbacks = option_or (option_or (option_or (option_or (option_or call nth_call) late) never) before) behind
+
+  abbrev pub question_of : Option Question
+  question_of = option_or words callbacks
+
+-- ---- the rows of a line
+
+abbrev pub may_wait : List (List ℕ) → Option Part
+may_wait fields = next (is_word (codes "may")) fields (λ is more. next (is_word (codes "wait")) more
+    (λ is more. ends more (Offers (record { offer = Wait; times = None }))))
+
+abbrev pub may_differ : List (List ℕ) → Option Part
+may_differ fields = next (is_word (codes "may")) fields (λ is more. next (is_word (codes "differ")) more
+    (λ is more. next (number_in 0 MOST_COUNT) more (λ k more. ends more (Differ k))))
+
+abbrev pub most_clock : List (List ℕ) → Option Part
+most_clock fields = next (is_word (codes "most")) fields (λ is more. next (is_word (codes "clock")) more
+    (λ is more. next (number_in 0 MOST_MS) more (λ ms more. ends more (Clock ms))))
+
+abbrev pub most_states : List (List ℕ) → Option Part
+most_states fields = next (is_word (codes "most")) fields (λ is more. next (is_word (codes "states")) more
+    (λ is more. next (number_in 1 MOST_COUNT) more (λ n more. ends more (States n))))
+
+abbrev pub full : List (List ℕ) → Option Part
+full fields = next (is_word (codes "full")) fields (λ is more. ends more Full)
+
+module _ (names fields : List (List ℕ)) where
+  -- `may OFFER N`
+  abbrev pub may : Option Part
+  may = next (is_word (codes "may")) fields (λ is more. next_two (offer_of names) more (λ o more. next (number_in 1 MOST_COUNT) more
+      (λ n more. ends more (Offers (record { offer = o; times = Some n })))))
+
+  -- `may send NAME N during JOB`
+  abbrev pub may_during : Option Part
+  may_during = next (is_word (codes "may")) fields (λ is more. next (is_word (codes "send")) more (λ is more. next (place_of names) more
+      (λ v more. next (number_in 1 MOST_COUNT) more (λ n more. next (is_word (codes "during")) more (λ is more. next (place_of names) more
+      (λ w more. if v.0 == w.0 then None else ends more (Offers (record { offer = SendDuring v w; times = Some n }))))))))
+
+  -- `recorded POLLS STEPS EVENT`
+  abbrev pub recorded : Option Part
+  recorded = next (is_word (codes "recorded")) fields (λ is more. next (number_in 0 MOST_COUNT) more (λ m more. next (number_in 0 MOST_COUNT) more
+      (λ n more. next_two (came_of names) more
+      (λ came more. ends more (Recorded (record { event = came.0; waits = came.1; polls = m; steps = n }))))))
+
+  -- `takes NAME MS`, and `takes NAME @K MS`
+  abbrev pub takes : Option Part
+  takes = next (is_word (codes "takes")) fields (λ is more. next (place_of names) more (λ v more. next (number_in 0 MOST_MS) more
+      (λ ms more. ends more (Takes (record { name = v; call = None; ms = ms })))))
+
+  abbrev pub takes_once : Option Part
+  takes_once = next (is_word (codes "takes")) fields (λ is more. next (place_of names) more (λ v more. next call_in more
+      (λ k more. next (number_in 0 MOST_MS) more (λ ms more. ends more (Takes (record { name = v; call = Some k; ms = ms }))))))
+
+  abbrev pub most_calls : Option Part
+  most_calls = next (is_word (codes "most")) fields (λ is more. next (bounded_name names) more (λ v more. next (number_in 0 MOST_COUNT) more
+      (λ n more. ends more (Calls (record { name = v; calls = n })))))
+
+  abbrev pub latest : Option Part
+  latest = find fields (λ more. next (is_word (codes "latest")) more (λ is more. next (place_of names) more (λ v more. ends more (Latest v))))
+
+  abbrev pub offers : Option Part
+  offers = option_or (option_or (option_or (option_or may may_during) (may_wait fields)) (may_differ fields)) recorded
+
+  abbrev pub bounds : Option Part
+  bounds = option_or (option_or (option_or (option_or (option_or takes takes_once) (most_clock fields)) (most_states fields)) most_calls)
+      (full fields)
+
+  abbrev pub part_of : Option Part
+  part_of = option_or (option_or (option_or offers bounds) latest) (option_map Finds (question_of names fields))
+
+abbrev pub said_by : Option Part → Said
+said_by (Some part) = One part
+said_by None = Bad
+
+-- how a line is read, where these names are declared: empty lines and comments say nothing, and what no row fits is bad
+abbrev pub said_of : List (List ℕ) → List ℕ → Said
+said_of names line = if is_line line then (if is_skipped line then Nothing else said_by (part_of names (fields_of line))) else Bad

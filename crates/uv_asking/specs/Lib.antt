@@ -1,4 +1,3 @@
-pub mod Limits
-pub mod Grammar
-pub mod Tests
 pub mod Asked
+pub mod Grammar
+pub mod Limits

@@ -1,178 +1,162 @@
-//! The reader of what stands behind `find`.
-ghost use Rattle.std.specs.Prelude.{◌≡◌};
-ghost use Rattle.uv_asking.specs.Tests.{question_of, stuck_of, section_of, plain_of, named_of, nth_call_of, late_of, numbered_of, before_of, behind_of, three_of, code_name_of, four_of};
+//! The rows of `find`: what may stand behind it. Each reads its fields from the first one on.
+ghost use Rattle.std.specs.Prelude.{◌≡◌, ℕ, List};
+ghost use Rattle.uv_script.specs.Lines.{fields_of};
+ghost use Rattle.uv_asking.specs.Grammar as is;
 
-use crate::asking::{Question, Which};
-use crate::words::{MOST_MS, count_from, number_in, which};
-use uv_ids::{Code, Phase, is};
+use crate::asking::Question;
+use crate::field::{callbacks, code, count, end, lone, name, number, section, word};
+use crate::words::MOST_MS;
+use uv_ids::Var;
 use uv_script::{Fields, Names};
 
-/// What stands behind `find`.
-pub(crate) fn question(names: &Names, mut fields: Fields<'_>) -> Option<Question>
-    ensures { result ≡ question_of names.now fields.entry }
+fn stuck(mut fields: Fields<'_>) -> Option<Question>
+    ensures { result ≡ is.stuck fields.entry }
 {
-    let first = fields.next()?;
-    let Some(second) = fields.next() else {
-        return stuck(first);
-    };
-    let Some(third) = fields.next() else {
-        return plain(names, first, second);
-    };
-    let Some(fourth) = fields.next() else {
-        return of_three(names, first, second, third);
-    };
-    match fields.next() {
-        None => of_four(names, first, second, third, fourth),
-        Some(_) => None,
-    }
+    word(b"find", &mut fields)?;
+    word(b"stuck", &mut fields)?;
+    end(fields)?;
+    Some(Question::Stuck)
 }
 
-#[tactic(auto, unfolding(crate::specs::Tests::stuck_of))]
-fn stuck(what: &[u8]) -> Option<Question>
-    ensures { result ≡ stuck_of what.now }
+fn call(names: &Names, mut fields: Fields<'_>) -> Option<Question>
+    ensures { result ≡ is.call names.now fields.entry }
 {
-    if is(what, b"stuck") {
-        Some(Question::Stuck)
-    } else {
-        None
-    }
+    word(b"find", &mut fields)?;
+    let which = callbacks(&mut fields)?;
+    let name = name(names, &mut fields)?;
+    end(fields)?;
+    Some(Question::Call(which, name, None))
 }
 
-#[tactic(auto, unfolding(crate::specs::Tests::plain_of))]
-fn plain(names: &Names, what: &[u8], argument: &[u8]) -> Option<Question>
-    ensures { result ≡ plain_of names.now what.now argument.now }
+fn nth_call(names: &Names, mut fields: Fields<'_>) -> Option<Question>
+    ensures { result ≡ is.nth_call names.now fields.entry }
 {
-    match which(what) {
-        Some(which) => {
-            let name = names.number(argument)?;
-            Some(Question::Call(which, name, None))
-        }
-        None => named(names, what, argument),
-    }
+    word(b"find", &mut fields)?;
+    let which = callbacks(&mut fields)?;
+    let name = lone(names, &mut fields)?;
+    let number = count(1, &mut fields)?;
+    end(fields)?;
+    Some(Question::Call(which, name, Some(number)))
 }
 
-/// A word that means no callbacks, and one more.
-#[tactic(auto, unfolding(crate::specs::Tests::named_of))]
-fn named(names: &Names, what: &[u8], argument: &[u8]) -> Option<Question>
-    ensures { result ≡ named_of names.now what.now argument.now }
+fn late(names: &Names, mut fields: Fields<'_>) -> Option<Question>
+    ensures { result ≡ is.late names.now fields.entry }
 {
-    if is(what, b"code") {
-        let code = Code::from_word(argument)?;
-        Some(Question::Code(code, None))
-    } else if is(what, b"section") {
-        section(argument)
-    } else if is(what, b"never") {
-        let name = names.number(argument)?;
-        Some(Question::Never(name))
-    } else {
-        None
-    }
-}
-
-/// A section's word, or `poll`.
-#[tactic(auto, unfolding(crate::specs::Tests::section_of))]
-fn section(word: &[u8]) -> Option<Question>
-    ensures { result ≡ section_of word.now }
-{
-    if is(word, b"poll") {
-        return Some(Question::Poll);
-    }
-    let phase = Phase::from_word(word)?;
-    Some(Question::Section(phase))
-}
-
-#[tactic(auto, unfolding(crate::specs::Tests::three_of))]
-fn of_three(names: &Names, first: &[u8], second: &[u8], third: &[u8]) -> Option<Question>
-    ensures { result ≡ three_of names.now first.now second.now third.now }
-{
-    if is(second, b"before") {
-        before(names, first, third)
-    } else if is(second, b"after") {
-        behind(names, first, third)
-    } else {
-        numbered(names, first, second, third)
-    }
-}
-
-/// Two names, and not one twice.
-#[tactic(auto, unfolding(crate::specs::Tests::before_of))]
-fn before(names: &Names, first: &[u8], second: &[u8]) -> Option<Question>
-    ensures { result ≡ before_of names.now first.now second.now }
-{
-    if is(first, second) {
-        return None;
-    }
-    let first = names.number(first)?;
-    let second = names.number(second)?;
-    Some(Question::Before(first, second))
-}
-
-/// The same the other way round.
-#[tactic(auto, unfolding(crate::specs::Tests::behind_of))]
-fn behind(names: &Names, first: &[u8], second: &[u8]) -> Option<Question>
-    ensures { result ≡ behind_of names.now first.now second.now }
-{
-    if is(first, second) {
-        return None;
-    }
-    let first = names.number(first)?;
-    let second = names.number(second)?;
-    Some(Question::Behind(first, second))
-}
-
-/// A word, a name and a number.
-#[tactic(auto, unfolding(crate::specs::Tests::numbered_of))]
-fn numbered(names: &Names, what: &[u8], name: &[u8], number: &[u8]) -> Option<Question>
-    ensures { result ≡ numbered_of names.now what.now name.now number.now }
-{
-    match which(what) {
-        Some(which) => nth_call(names, which, name, number),
-        None => {
-            if is(what, b"late") {
-                late(names, name, number)
-            } else {
-                None
-            }
-        }
-    }
-}
-
-#[tactic(auto, unfolding(crate::specs::Tests::nth_call_of))]
-fn nth_call(names: &Names, which: Which, name: &[u8], number: &[u8]) -> Option<Question>
-    ensures { result ≡ nth_call_of names.now which name.now number.now }
-{
-    let name = names.number(name)?;
-    let call = count_from(1, number)?;
-    Some(Question::Call(which, name, Some(call)))
-}
-
-#[tactic(auto, unfolding(crate::specs::Tests::late_of))]
-fn late(names: &Names, name: &[u8], number: &[u8]) -> Option<Question>
-    ensures { result ≡ late_of names.now name.now number.now }
-{
-    let name = names.number(name)?;
-    let ms = number_in(0, MOST_MS, number)?;
+    word(b"find", &mut fields)?;
+    word(b"late", &mut fields)?;
+    let name = lone(names, &mut fields)?;
+    let ms = number(0, MOST_MS, &mut fields)?;
+    end(fields)?;
     Some(Question::Late(name, ms))
 }
 
-#[tactic(auto, unfolding(crate::specs::Tests::four_of))]
-fn of_four(names: &Names, what: &[u8], word: &[u8], of: &[u8], name: &[u8]) -> Option<Question>
-    ensures { result ≡ four_of names.now what.now word.now of.now name.now }
+fn code_alone(mut fields: Fields<'_>) -> Option<Question>
+    ensures { result ≡ is.code fields.entry }
 {
-    if is(what, b"code") {
-        if is(of, b"of") {
-            return code_of_name(names, word, name);
-        }
-    }
-    None
+    word(b"find", &mut fields)?;
+    word(b"code", &mut fields)?;
+    let code = code(&mut fields)?;
+    end(fields)?;
+    Some(Question::Code(code, None))
 }
 
-/// A code, and the name that it is answered to.
-#[tactic(auto, unfolding(crate::specs::Tests::code_name_of))]
-fn code_of_name(names: &Names, word: &[u8], name: &[u8]) -> Option<Question>
-    ensures { result ≡ code_name_of names.now word.now name.now }
+fn code_of(names: &Names, mut fields: Fields<'_>) -> Option<Question>
+    ensures { result ≡ is.code_of names.now fields.entry }
 {
-    let code = Code::from_word(word)?;
-    let name = names.number(name)?;
+    word(b"find", &mut fields)?;
+    word(b"code", &mut fields)?;
+    let code = code(&mut fields)?;
+    word(b"of", &mut fields)?;
+    let name = name(names, &mut fields)?;
+    end(fields)?;
     Some(Question::Code(code, Some(name)))
+}
+
+fn poll(mut fields: Fields<'_>) -> Option<Question>
+    ensures { result ≡ is.poll fields.entry }
+{
+    word(b"find", &mut fields)?;
+    word(b"section", &mut fields)?;
+    word(b"poll", &mut fields)?;
+    end(fields)?;
+    Some(Question::Poll)
+}
+
+fn section_begins(mut fields: Fields<'_>) -> Option<Question>
+    ensures { result ≡ is.section fields.entry }
+{
+    word(b"find", &mut fields)?;
+    word(b"section", &mut fields)?;
+    let phase = section(&mut fields)?;
+    end(fields)?;
+    Some(Question::Section(phase))
+}
+
+fn never(names: &Names, mut fields: Fields<'_>) -> Option<Question>
+    ensures { result ≡ is.never names.now fields.entry }
+{
+    word(b"find", &mut fields)?;
+    word(b"never", &mut fields)?;
+    let name = name(names, &mut fields)?;
+    end(fields)?;
+    Some(Question::Never(name))
+}
+
+/// Two names with a word between them, and not one twice.
+fn pair(names: &Names, between: &[u8], mut fields: Fields<'_>) -> Option<(Var, Var)>
+    ensures { result ≡ is.pair names.now fields.entry between.now }
+{
+    word(b"find", &mut fields)?;
+    let first = name(names, &mut fields)?;
+    word(between, &mut fields)?;
+    let second = name(names, &mut fields)?;
+    if first.0 == second.0 {
+        return None;
+    }
+    end(fields)?;
+    Some((first, second))
+}
+
+fn before(names: &Names, fields: Fields<'_>) -> Option<Question>
+    ensures { result ≡ is.before names.now fields.entry }
+{
+    let (first, second) = pair(names, b"before", fields)?;
+    Some(Question::Before(first, second))
+}
+
+fn behind(names: &Names, fields: Fields<'_>) -> Option<Question>
+    ensures { result ≡ is.behind names.now fields.entry }
+{
+    let (first, second) = pair(names, b"after", fields)?;
+    Some(Question::Behind(first, second))
+}
+
+/// The questions that name nothing, or a code first.
+fn words(names: &Names, line: &[u8]) -> Option<Question>
+    ensures { result ≡ is.words names.now (fields_of line.now) }
+{
+    stuck(Fields::of(line))
+        .or(code_alone(Fields::of(line)))
+        .or(poll(Fields::of(line)))
+        .or(section_begins(Fields::of(line)))
+        .or(code_of(names, Fields::of(line)))
+}
+
+/// The questions of callbacks.
+fn called(names: &Names, line: &[u8]) -> Option<Question>
+    ensures { result ≡ is.callbacks names.now (fields_of line.now) }
+{
+    call(names, Fields::of(line))
+        .or(nth_call(names, Fields::of(line)))
+        .or(late(names, Fields::of(line)))
+        .or(never(names, Fields::of(line)))
+        .or(before(names, Fields::of(line)))
+        .or(behind(names, Fields::of(line)))
+}
+
+/// The question of a line `find`.
+pub(crate) fn question(names: &Names, line: &[u8]) -> Option<Question>
+    ensures { result ≡ is.question_of names.now (fields_of line.now) }
+{
+    words(names, line).or(called(names, line))
 }

@@ -1,10 +1,11 @@
-//! The fields of a line that are numbers of a range.
+//! What fields of a line are: numbers of a range, names, and words that mean something.
 ghost use Rattle.std.specs.Prelude.{◌≡◌, ◌≤◌, IfSome};
-ghost use Rattle.uv_asking.specs.Tests.{number_in, call_in, which_named};
+ghost use Rattle.uv_script.specs.Reading.{place_of};
+ghost use Rattle.uv_asking.specs.Grammar.{number_in, call_in, which_named, lone_name, bounded_name, offer_of, came_by, came_of};
 
-use crate::asking::Which;
-use uv_ids::is;
-use uv_script::number;
+use crate::asking::{Offer, Which};
+use uv_ids::{Event, Var, is};
+use uv_script::{Names, number};
 
 /// The most that a count says.
 pub(crate) const MOST_COUNT: u64 = u32::MAX as u64;
@@ -16,7 +17,6 @@ const MOST_WORKER: u64 = u16::MAX as u64;
 pub(crate) const MOST_MS: u64 = 4_611_686_018_427_387_904;
 
 /// The number that a field is, if it is of this range.
-#[tactic(auto, unfolding(crate::specs::Tests::number_in))]
 pub(crate) fn number_in(low: u64, high: u64, field: &[u8]) -> Option<u64>
     ensures value { result ≡ number_in low high field.now }
     ensures last { IfSome result (λ n. n ≤ high) }
@@ -52,7 +52,6 @@ pub(crate) fn call_in(field: &[u8]) -> Option<u32>
 }
 
 /// The callbacks that a word means.
-#[tactic(auto, unfolding(crate::specs::Tests::which_named))]
 pub(crate) fn which(word: &[u8]) -> Option<Which>
     ensures { result ≡ which_named word.now }
 {
@@ -66,5 +65,75 @@ pub(crate) fn which(word: &[u8]) -> Option<Which>
         Some(Which::Close)
     } else {
         None
+    }
+}
+
+/// The name that a field is, where it is no word that stands between two names.
+pub(crate) fn lone_name(names: &Names, field: &[u8]) -> Option<Var>
+    ensures { result ≡ lone_name names.now field.now }
+{
+    if is(field, b"before") || is(field, b"after") {
+        return None;
+    }
+    names.number(field)
+}
+
+/// The name that a field is, where it may be bounded.
+pub(crate) fn bounded_name(names: &Names, field: &[u8]) -> Option<Var>
+    ensures { result ≡ bounded_name names.now field.now }
+{
+    if is(field, b"clock") || is(field, b"states") {
+        return None;
+    }
+    names.number(field)
+}
+
+/// The offer that two fields are.
+pub(crate) fn offer(names: &Names, what: &[u8], argument: &[u8]) -> Option<Offer>
+    ensures { result ≡ offer_of names.now what.now argument.now }
+{
+    if is(what, b"send") {
+        let name = names.number(argument)?;
+        Some(Offer::Step(Event::Send(name)))
+    } else if is(what, b"cancel") {
+        let name = names.number(argument)?;
+        Some(Offer::Step(Event::Cancel(name)))
+    } else if is(what, b"io") {
+        let name = names.number(argument)?;
+        Some(Offer::Step(Event::Io(name)))
+    } else if is(what, b"tick") {
+        let ms = number_in(1, MOST_MS, argument)?;
+        Some(Offer::Step(Event::Tick(ms)))
+    } else if is(what, b"wait") {
+        let ms = number_in(1, MOST_MS, argument)?;
+        Some(Offer::WaitFor(ms))
+    } else {
+        None
+    }
+}
+
+/// The event of an offer that came, and whether it is a wait.
+fn step_in(offer: Option<Offer>) -> Option<(Event, bool)>
+    ensures { result ≡ came_by offer }
+{
+    match offer {
+        Some(Offer::Step(event)) => Some((event, false)),
+        Some(Offer::WaitFor(ms)) => Some((Event::Tick(ms), true)),
+        _ => None,
+    }
+}
+
+/// The event that came, and whether it is a wait.
+pub(crate) fn came(names: &Names, what: &[u8], argument: &[u8]) -> Option<(Event, bool)>
+    ensures { result ≡ came_of names.now what.now argument.now }
+{
+    if is(what, b"take") {
+        let worker = worker(argument)?;
+        Some((Event::Take(worker), false))
+    } else if is(what, b"finish") {
+        let worker = worker(argument)?;
+        Some((Event::Finish(worker), false))
+    } else {
+        step_in(offer(names, what, argument))
     }
 }

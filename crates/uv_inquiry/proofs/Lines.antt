@@ -5,11 +5,9 @@ use Rattle.std.proofs.lemmas.Option.{same_Some, cond_some, none-some}
 use Rattle.uv_ids.specs.declared.fault.Fault.{Fault}
 use Rattle.uv_ids.specs.declared.fault.Fault.TheVariants as fault
 use Rattle.uv_script.specs.Lines.{lines_of}
-use Rattle.uv_script.proofs.Agrees.{AreDistinct}
 use Rattle.uv_asking.specs.declared.part.Said.{Said}
 use Rattle.uv_asking.specs.declared.part.Said.TheVariants.{Nothing, One, Bad}
-use Rattle.uv_asking.specs.Tests.{said_of}
-use Rattle.uv_asking.proofs.Agreement.{says_read, says_only}
+use Rattle.uv_asking.specs.Grammar.{said_of}
 use Rattle.uv_inquiry.specs.Drafts.{Draft, unsaid, with_part}
 use Rattle.uv_inquiry.specs.Grammar.{Reads, skips, says, ReadsAll, none, one, at_line}
 use Rattle.uv_inquiry.specs.Tests.{is_new, after_said, after_line, ReadsLine, ReadsLines, IsBadBehind}
@@ -17,20 +15,20 @@ use Rattle.uv_inquiry.proofs.Steps.{new_sound, new_complete}
 
 after_sound_by : (names : List (List ℕ)) (d e : Draft) (line : List ℕ) (said : Said) → said ≡ said_of names line → after_said d said ≡ Some e →
     Reads names d line e
-after_sound_by names d e line Nothing is same = subst (Reads names d line) (same_Some _ _ same) (skips (says_read names line Nothing is))
+after_sound_by names d e line Nothing is same = subst (Reads names d line) (same_Some _ _ same) (skips (sym is))
 after_sound_by names d e line (One part) is same =
     let fits = cond_some (is_new d part) (with_part d part) e same in
-    subst (Reads names d line) fits.1 (says part (says_read names line (One part) is) (new_sound d part fits.0))
+    subst (Reads names d line) fits.1 (says part (sym is) (new_sound d part fits.0))
 after_sound_by names d e line Bad is same = absurd (none-some e same)
 
 pub after_sound : (names : List (List ℕ)) (d e : Draft) (line : List ℕ) → after_line names d line ≡ Some e → Reads names d line e
 after_sound names d e line same = after_sound_by names d e line (said_of names line) refl same
 
-pub after_complete : (names : List (List ℕ)) (d e : Draft) (line : List ℕ) → AreDistinct names → Reads names d line e →
+pub after_complete : (names : List (List ℕ)) (d e : Draft) (line : List ℕ) → Reads names d line e →
     after_line names d line ≡ Some e
-after_complete names d e line distinct (skips h) = ap (after_said d) (sym (says_only names line Nothing distinct h))
-after_complete names d e line distinct (says part h new) =
-    ap (after_said d) (sym (says_only names line (One part) distinct h))
+after_complete names d e line (skips h) = ap (after_said d) h
+after_complete names d e line (says part h new) =
+    ap (after_said d) h
     ∙ ap (λ (b : Bool). cond b (Some (with_part d part)) None) (new_complete d part new)
 
 -- one more line behind the others
@@ -40,9 +38,9 @@ reads_push names d e f [] line none last = one last none
 reads_push names d e f (a ∷ lines) line (one {e = m} first rest) last = one first (reads_push names m e f lines line rest last)
 
 -- a line that the reader refuses is outside the grammar
-pub refused_line : (names : List (List ℕ)) (d : Draft) (line : List ℕ) → AreDistinct names → after_line names d line ≡ None → (e : Draft) →
+pub refused_line : (names : List (List ℕ)) (d : Draft) (line : List ℕ) → after_line names d line ≡ None → (e : Draft) →
     Reads names d line e → ⊥
-refused_line names d line distinct refused e is = none-some e (sym refused ∙ after_complete names d e line distinct is)
+refused_line names d line refused e is = none-some e (sym refused ∙ after_complete names d e line is)
 
 -- in a loop over lines
 pub reads_step : {A : Type 0} (f : A → List ℕ) (names : List (List ℕ)) (s d e : Draft) (before : List A) (x : A) →
@@ -59,23 +57,23 @@ all_read f names text s d before left read rest e =
     (sym (append-nil (map f before)) ∙ ap (λ (ls : List (List ℕ)). map f before ++ ls) (sym e) ∙ rest) read
 
 bad_line : {A : Type 0} (f : A → List ℕ) (names : List (List ℕ)) (text : List ℕ) (front number : ℕ) (d : Draft) (before : List A) (x : A)
-    (left after : List (List ℕ)) → AreDistinct names → ReadsAll names unsaid (map f before) d → map f before ++ left ≡ lines_of text →
+    (left after : List (List ℕ)) → ReadsAll names unsaid (map f before) d → map f before ++ left ≡ lines_of text →
     left ≡ f x ∷ after → number ≡ front + length before + 1 → after_line names d (f x) ≡ None → IsBadBehind names text front number
-bad_line f names text front number d before x left after distinct read rest step count e =
+bad_line f names text front number d before x left after read rest step count e =
     let same = length-map before f in
     record {
       number = length (map f before) + 1;
-      bad = at_line (map f before) (f x) after d (sym rest ∙ ap (λ l. map f before ++ l) step) read (refused_line names d (f x) distinct e);
+      bad = at_line (map f before) (f x) after d (sym rest ∙ ap (λ l. map f before ++ l) step) read (refused_line names d (f x) e);
       counted = omega arith;
     }
 
 -- the fault of a line is the text's
 pub line_fault : {A : Type 0} (f : A → List ℕ) (names : List (List ℕ)) (text : List ℕ) (front number : ℕ) (d e : Draft) (before : List A) (x : A)
-    (left after : List (List ℕ)) (fault : Fault) → AreDistinct names → ReadsAll names unsaid (map f before) d →
+    (left after : List (List ℕ)) (fault : Fault) → ReadsAll names unsaid (map f before) d →
     map f before ++ left ≡ lines_of text → left ≡ f x ∷ after → number ≡ front + length before + 1 →
     ReadsLine names d (f x) number (Err fault) e → ReadsLines names text front (Err fault)
-line_fault f names text front number d e before x left after (fault.Script bad) distinct read rest step count h =
+line_fault f names text front number d e before x left after (fault.Script bad) read rest step count h =
     subst (IsBadBehind names text front) (sym h.0)
-    (bad_line f names text front number d before x left after distinct read rest step count h.1)
-line_fault f names text front number d e before x left after fault.Memory distinct read rest step count h = tt
-line_fault f names text front number d e before x left after _ distinct read rest step count h = h
+    (bad_line f names text front number d before x left after read rest step count h.1)
+line_fault f names text front number d e before x left after fault.Memory read rest step count h = tt
+line_fault f names text front number d e before x left after _ read rest step count h = h

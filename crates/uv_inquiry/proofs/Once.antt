@@ -5,10 +5,9 @@ use Rattle.std.proofs.lemmas.Option.{same_Some, none-some}
 use Rattle.uv_script.specs.Lines.{lines_of}
 use Rattle.uv_script.specs.Program.{Program}
 use Rattle.uv_script.specs.Grammar.{IsScript, IsBadLine, unread}
-use Rattle.uv_script.proofs.Agrees.{AreDistinct}
-use Rattle.uv_script.proofs.OneReading.{one_script, no_bad_line, one_bad_line, distinct_names}
+use Rattle.uv_script.proofs.OneReading.{one_script, no_bad_line, one_bad_line}
 use Rattle.uv_engine.specs.Out as out
-use Rattle.uv_engine.specs.Out.{Begins, NeverBegins, Out, End, HasAnswer}
+use Rattle.uv_engine.specs.Out.{Begins, Out, End, HasAnswer}
 use Rattle.uv_engine.specs.Start.{MissesBegin, after_last, at_line}
 use Rattle.uv_asking.specs.declared.asking.Question.{Question}
 use Rattle.uv_asking.specs.Asked.{Asked}
@@ -21,9 +20,9 @@ use Rattle.uv_inquiry.proofs.Lines.{after_sound, after_complete, reads_push, ref
 use Rattle.uv_engine.proofs.Begun.{begins_one, never_begins}
 
 -- ---- the lines behind `begin`, where no name is declared twice
-module _ (names : List (List ℕ)) (distinct : AreDistinct names) where
+module _ (names : List (List ℕ)) where
   reads_one : (d e f : Draft) (line : List ℕ) → Reads names d line e → Reads names d line f → e ≡ f
-  reads_one d e f line a b = same_Some e f (sym (after_complete names d e line distinct a) ∙ after_complete names d f line distinct b)
+  reads_one d e f line a b = same_Some e f (sym (after_complete names d e line a) ∙ after_complete names d f line b)
 
   all_one : (d e f : Draft) (lines : List (List ℕ)) → ReadsAll names d lines e → ReadsAll names d lines f → e ≡ f
   all_one d e f [] none none = refl
@@ -113,7 +112,7 @@ module _ (names : List (List ℕ)) (distinct : AreDistinct names) where
             ((a : Asked) × Asks names text a) ⊎ ((number : ℕ) × IsBadAsking names text number)) →
             ((a : Asked) × Asks names text a) ⊎ ((number : ℕ) × IsBadAsking names text number)
         at (Some q) f onward = onward q (reads_push names unsaid d q before line read (after_sound names d q line f))
-        at None f onward = inr (length before + 1, is.at_line before line rest d e read (refused_line names d line distinct f))
+        at None f onward = inr (length before + 1, is.at_line before line rest d e read (refused_line names d line f))
 
   pub asks_some : (text : List ℕ) → ((a : Asked) × Asks names text a) ⊎ ((number : ℕ) × IsBadAsking names text number)
   asks_some text = reading_from text unsaid [] (lines_of text) refl none
@@ -139,7 +138,7 @@ asks_there {input} {s} {t} {l} {k} p q Is b c h i at =
 pub inquiry_one : (input : List ℕ) (p q : Program) (a b : Asked) → IsInquiry input p a → IsInquiry input q b → (p ≡ q) × (a ≡ b)
 inquiry_one input p q a b h k =
     let there = asks_there p q (λ names text. Asks names text b) h.begins k.begins h.is k.is k.asks in
-    (there.0, asks_one p.names (distinct_names h.script p h.is) h.lines a b h.asks there.1)
+    (there.0, asks_one p.names h.lines a b h.asks there.1)
 
 pub inquiry_no_bad : (input : List ℕ) (p : Program) (a : Asked) (number : ℕ) → IsInquiry input p a → IsBadInput input number → ⊥
 inquiry_no_bad input p a _ h (no_begin number never misses) = never_begins input input h.script h.lines refl h.begins never
@@ -148,7 +147,7 @@ inquiry_no_bad input p a _ h (in_script script lines number begins bad) =
     no_bad_line script p number (subst (λ (xs : List ℕ). IsScript xs p) cut.script h.is) bad
 inquiry_no_bad input p a _ h (behind script lines q number begins is bad) =
     let there = asks_there p q (λ names text. IsBadAsking names text number) h.begins begins h.is is bad in
-    asks_no_bad p.names (distinct_names h.script p h.is) h.lines a number h.asks there.1
+    asks_no_bad p.names h.lines a number h.asks there.1
 
 pub bad_input_one : (input : List ℕ) (m n : ℕ) → IsBadInput input m → IsBadInput input n → m ≡ n
 bad_input_one input _ _ (no_begin m never h) (no_begin n never' k) = misses_one input m n h k
@@ -168,12 +167,12 @@ bad_input_one input _ _ (behind s l p m b h bad) (in_script t k n c bad') =
 bad_input_one input _ _ (behind s l p m b h bad) (behind t k q n c i bad') =
     let cut = begins_one input input s t l k refl b c in
     let there = asks_there p q (λ names text. IsBadAsking names text n) b c h i bad' in
-    let same = bad_one p.names (distinct_names s p h) l m n bad there.1 in
+    let same = bad_one p.names l m n bad there.1 in
     ap (λ (xs : List ℕ). length (lines_of xs) + 1 + m) cut.script ∙ ap (λ (j : ℕ). length (lines_of t) + 1 + j) same
 
 -- a script that is read, and what stands behind it
 of_begun : (input script lines : List ℕ) (p : Program) → Begins input script lines → IsScript script p → HasReading input
-of_begun input script lines p begins h = by (asks_some p.names (distinct_names script p h) lines) where
+of_begun input script lines p begins h = by (asks_some p.names lines) where
   by : ((a : Asked) × Asks p.names lines a) ⊎ ((number : ℕ) × IsBadAsking p.names lines number) → HasReading input
   by (inl r) = inl (record { program = p; asked = r.0; is = record { script = script; lines = lines; begins = begins; is = h; asks = r.1 } })
   by (inr r) = inr (length (lines_of script) + 1 + r.0, behind script lines p r.0 begins h r.1)

@@ -1,5 +1,5 @@
 //! What the lines behind `begin` have said so far.
-ghost use Rattle.std.specs.Prelude.{◌≡◌, ◌≢◌, ◌<◌, ◌+◌, ◌-◌, ◌^◌, length, AllPairs, OnOk, option_map};
+ghost use Rattle.std.specs.Prelude.{◌≡◌, ◌<◌, ◌+◌, ◌-◌, ◌^◌, length, OnOk, option_map};
 ghost use Rattle.std.specs.List.{list_any, list_all};
 ghost use Rattle.uv_asking.specs.declared.asking.Offered.{Offered};
 ghost use Rattle.uv_asking.specs.declared.asking.Offer.TheVariants.{Wait};
@@ -218,7 +218,6 @@ impl Draft {
 
 /// Reads the lines of a text, where so many lines stand before it.
 fn read_lines(alloc: Global, names: &Names, text: &[u8], before: usize) -> Result<Draft, Fault>
-    requires distinct { AllPairs (λ x y. x ≢ y) names.now }
     requires few { before + length text.now < 2 ^ 64 - 1 }
     ensures { ReadsLines names.now text.now before result }
 {
@@ -238,7 +237,6 @@ pub(crate) fn read_asking(
     text: &[u8],
     before: usize,
 ) -> Result<Asking, Fault>
-    requires distinct { AllPairs (λ x y. x ≢ y) names.now }
     requires few { before + length text.now < 2 ^ 64 - 1 }
     ensures { ReadsAsking names.now text.now before result }
 {

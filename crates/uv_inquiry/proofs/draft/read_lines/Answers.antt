@@ -46,5 +46,5 @@ returns-in_err-read_line c =
     let loop = c.loop-line in
     let is = err_from_is_err_and c.from_residual.result c.from_residual.ensures.1 in
     rw (is.1, is.2) (line_fault (λ line. line.now) c.args.names.now c.args.text.now c.args.before (loop.number + 1) loop.draft
-    c.read_line.new.self loop.yielded c.in-Some.line loop.line-iterator c.next.new.self c.in_err-read_line.field-0.0 c.requires.distinct
+    c.read_line.new.self loop.yielded c.in-Some.line loop.line-iterator c.next.new.self c.in_err-read_line.field-0.0
     loop.invariant.read loop.invariant.rest c.in-Some.ensures.steps (ap (λ n. n + 1) loop.invariant.counted) c.in_err-read_line.ensures)

@@ -14,8 +14,8 @@ returns-in_err-script c =
     let is = err_from_is_err_and c.from_residual.result c.from_residual.ensures.1 in
     rw (is.1, is.2) (bad_script c.args.input.now c.in-Some.front.now c.in-Some.behind.now c.in_err-script.field-0.0 begins c.in_err-script.ensures)
 
-pub read_asking-requires-clause-few : goal.read_asking-requires-clause-few
-read_asking-requires-clause-few c =
+pub read_asking-requires : goal.read_asking-requires
+read_asking-requires c =
     let few = parts_few (rw c.in-Some.is at c.cut_begin.ensures.some) in
     omega (arith, few, c.line_count.ensures.few)
 
