@@ -6,6 +6,7 @@ import ast
 import gzip
 import hashlib
 import os
+import platform
 import py_compile
 import re
 import subprocess
@@ -50,6 +51,29 @@ class Item(NamedTuple):
 
 
 Items = dict[str, Item]
+
+
+def put(path: Path, item: Item) -> None:
+    path.parent.mkdir(parents=True, exist_ok=True)
+    part = path.with_name(path.name + ".part")
+    # (no link that somebody else has put there is followed, and nothing half written stays)
+    part.unlink(missing_ok=True)
+    if item.link:
+        part.symlink_to(item.link)
+    else:
+        try:
+            part.write_bytes(item.data)
+        except OSError:
+            part.unlink(missing_ok=True)
+            raise
+        part.chmod(item.mode)
+    # (a program that runs is never written to)
+    part.replace(path)
+
+
+def put_all(folder: Path, items: Items) -> None:
+    for name, item in items.items():
+        put(folder / name, item)
 
 
 def page_of(text: str, prefix: str) -> str:
@@ -204,10 +228,30 @@ def git(*words: str) -> str:
     return ran.stdout.strip() if ran.returncode == 0 else ""
 
 
+def changes() -> str:
+    """What debian/changelog says, where these are the sources of a Debian package; else nothing."""
+    path = ROOT / "debian" / "changelog"
+    return "" if (ROOT / ".git").exists() or not path.is_file() else path.read_text(encoding="utf-8")
+
+
 def version() -> str:
-    """The commit, behind the day and the time of it in UTC, so that a later one is an upgrade; `+changed` where the clone isn't what it has."""
+    """The commit, behind the day and the time of it in UTC, so that a later one is an upgrade; `+changed` where the clone isn't what it has. Sources of
+    a Debian package have it in their changes."""
     found = git("log", "-1", "--date=format-local:%Y%m%d.%H%M%S", "--format=0~%cd.%h")
-    return (found or "0") + ("+changed" if found and git("status", "--porcelain") else "")
+    said = re.match(r"uvt \((\S+)\)", changes())
+    return (found or (said[1] if said else "0")) + ("+changed" if found and git("status", "--porcelain") else "")
+
+
+def made_at() -> int:
+    """The time that all files of a package have: the commit's. Of a copy without its history that of its README, and first of all the time that
+    SOURCE_DATE_EPOCH says."""
+    said = os.environ.get("SOURCE_DATE_EPOCH") or git("log", "-1", "--format=%ct")
+    return int(said) if said.isdigit() else int((ROOT / "README.md").stat().st_mtime)
+
+
+def architecture() -> str:
+    machine = platform.machine()
+    return {"x86_64": "amd64", "aarch64": "arm64"}.get(machine, machine)
 
 
 def built_program(crate: str) -> Path | None:
@@ -218,3 +262,10 @@ def built_program(crate: str) -> Path | None:
         ["sh", "-c", "say() { :; }; fail() { exit 70; }; " + script], env={**os.environ, "root": str(ROOT), "crate": crate, "kept": str(kept)}
     )
     return kept / crate if ran.returncode == 0 else None
+
+
+def proved_program() -> Path:
+    program = built_program("uvt")
+    if program is None:
+        raise Fault("there is no proved program of these sources: ./uvt build proves and builds it, once")
+    return program
