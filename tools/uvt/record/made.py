@@ -8,7 +8,7 @@ from dataclasses import dataclass
 
 from uvt.conversation import built_program
 from uvt.progress import Teller
-from uvt.record.follow import Follower, MANY_WORKERS, NeedsWake
+from uvt.record.follow import CALLS, Follower, MANY_WORKERS, NeedsWake
 from uvt.record.leading import Outcome
 from uvt.record.items import Call, Program
 from uvt.record.log import Log
@@ -38,10 +38,12 @@ def replayed(lines: list[str]) -> str:
     return ran.stdout.strip() or ran.stderr.strip()
 
 
-def agrees(program: Program, callbacks: int, lines: StepLines) -> bool:
+def agrees(program: Program, outcome: Outcome) -> bool:
     """Are the recording's callbacks those of the log, by their names, as far as they go?"""
-    wanted = itertools.islice((it for it in program.items if isinstance(it, Call)), callbacks)
-    return [it for it in lines.calls.kinds if it[1] != "wake"] == [(it.callback, it.name) for it in wanted]
+    calls = outcome.recording[outcome.recording.index("calls") + 1 : -1]
+    names = [it for it in calls if not it.startswith("call wake ")]
+    wanted = list(itertools.islice((it for it in program.items if isinstance(it, Call)), outcome.callbacks))
+    return len(names) == len(wanted) and all(f"{line} ".startswith(f"{CALLS[it.callback]} {it.name} ") for line, it in zip(names, wanted))
 
 
 def followed(program: Program, workers: int) -> Outcome:
@@ -78,4 +80,4 @@ def make(log: Log, loop: int, part: Part = Part()) -> Made | None:
     outcome = followed(program, log.workers)
     lines = StepLines(*told_of(outcome.lines))
     polls = compare(program, lines, outcome.callbacks, not outcome.why)
-    return Made(outcome, program, lines, replayed(outcome.recording), agrees(program, outcome.callbacks, lines), polls)
+    return Made(outcome, program, lines, replayed(outcome.recording), agrees(program, outcome), polls)
