@@ -54,7 +54,7 @@ said_before n (line.Wide at ∷ ls) ws more k few =
     ap (λ s. s ∷ all_said (ws ++ more) ls) here ∙ ap (λ ss. slice_get ws at ∷ ss) (said_before (suc n) ls ws more k.1 (omega (arith, few)))
 said_before n (other ∷ ls) ws more k few = ap (λ ss. said ws other ∷ ss) (said_before n ls ws more k few)
 
-get_last : {X : Type 0} (xs : List X) (x : X) → slice_get (xs ++ x ∷ []) (length xs) ≡ Some x
+pub get_last : {X : Type 0} (xs : List X) (x : X) → slice_get (xs ++ x ∷ []) (length xs) ≡ Some x
 get_last [] x = refl
 get_last (y ∷ xs) x = get_last xs x
 

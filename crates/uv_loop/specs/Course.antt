@@ -1,16 +1,15 @@
 -- A loop over one memory: its steps, their records, and what all of it stands for.
-use Rattle.std.specs.Prelude.{◌≡◌, ◌<◌, ◌≤◌, ◌-◌, ℕ, Bool, true, false, List, [], ◌∷◌, length, take, Option, Result, Ok, Err}
+use Rattle.std.specs.Prelude.{◌≡◌, ◌<◌, ◌≤◌, ◌-◌, ℕ, Bool, true, false, List, [], ◌∷◌, length, slice_get, take, Option, Some, Result, Ok, Err}
 use Rattle.uv_ids.specs.declared.event.Event.{Event}
 use Rattle.uv_ids.specs.declared.fault.Fault.{Fault}
 use Rattle.uv_ids.specs.declared.seen.Seen.{Seen}
 use Rattle.uv_script.specs.Program.{Program, arena_size, worker_count}
-use Rattle.uv_model.specs.declared.machine.Outcome.{Outcome}
 use Rattle.uv_model.specs.declared.place.Place.{Place}
 use Rattle.uv_model.specs.declared.place.Place.TheVariants.{Main}
 use Rattle.uv_model.specs.State as state
 use Rattle.uv_model.specs.State.{State}
 use Rattle.uv_model.specs.Next.{next}
-use Rattle.uv_model.specs.After.{state_of, seen_by, IsMove, STEPS}
+use Rattle.uv_model.specs.After.{state_of, seen_by, IsMove, Answers, STEPS}
 use Rattle.uv_memory.specs.Record.{Record}
 use Rattle.uv_memory.specs.Image.{Image, Held, fresh}
 use Rattle.uv_memory.specs.Trail.{Walk, unwound, AddsOne, DropsOne}
@@ -53,9 +52,16 @@ pub record IsCourse (p : Program) (es : List Event) (seen : List (Option Seen)) 
   pub begins : unwound rs h.image ≡ first_image p
   pub stand : StandFrom p (state.fresh p) h.room h.image rs es
 
+-- what may be answered to an event after these steps, and the steps that stand then: an accepted one is answered as `Answers` says, with the
+-- line that lies at the end
+abbrev pub Takes : Program → List Event → Event → Result (Unit {0}) Fault → List Event → Type 0
+Takes p es e (Ok done) fs = (0 < length fs)
+    × ((line : Option Seen) → slice_get (seen_by p fs) (length fs - 1) ≡ Some line → Answers STEPS p es e (Ok (record { seen = line })) fs)
+Takes p es e (Err fault) fs = Answers STEPS p es e (Err fault) fs
+
 -- an accepted step adds one record, which gives back the very memory from before, and maybe a piece; a refused one changes nothing
-abbrev pub Adds : Result Outcome Fault → Course → Course → Type 0
-Adds (Ok outcome) old new = AddsOne old.walk new.walk × (old.pieces ≤ new.pieces)
+abbrev pub Adds : {A : Type 0} → Result A Fault → Course → Course → Type 0
+Adds (Ok answer) old new = AddsOne old.walk new.walk × (old.pieces ≤ new.pieces)
 Adds (Err fault) old new = new ≡ old
 
 -- the last step is taken back by its record, which is dropped, and the pieces stay; false comes only where no step stands

@@ -1,7 +1,7 @@
 //! The loop over one memory.
-ghost use Rattle.std.specs.Prelude.{◌≡◌, IfOk, length};
+ghost use Rattle.std.specs.Prelude.{◌≡◌, ◌<◌, ◌-◌, IfOk, Some, length, slice_get};
 ghost use Rattle.uv_script.specs.Program.{arena_size};
-ghost use Rattle.uv_model.specs.After.{after};
+ghost use Rattle.uv_model.specs.After.{after, seen_by};
 ghost use Rattle.uv_memory.specs.Fit.{IsFit};
 ghost use Rattle.uv_memory.specs.Image.{held};
 ghost use Rattle.uv_memory.specs.Trail.{unwound};
@@ -11,6 +11,7 @@ ghost use Rattle.uv_loop.specs.Course.{first_image};
 use crate::steps::Steps;
 use std::alloc::{AllocError, Global};
 use std::marker::Model;
+use uv_ids::Seen;
 use uv_memory::Memory;
 use uv_model::Place;
 use uv_script::Script;
@@ -73,5 +74,14 @@ impl ArenaLoop {
         ensures begins { unwound self.now.walk.records self.now.walk.image ≡ first_image self.now.program }
     {
         let _ = self.steps.len();
+    }
+
+    /// What the last step appended.
+    #[inline(always)]
+    pub(crate) fn last_line(&self) -> Option<Seen>
+        requires { 0 < length self.now.standing }
+        ensures { slice_get (seen_by self.now.program self.now.standing) (length self.now.standing - 1) ≡ Some result }
+    {
+        self.steps.seen.at(self.steps.len() - 1)
     }
 }

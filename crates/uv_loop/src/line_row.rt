@@ -44,6 +44,7 @@ impl LineRow {
     }
 
     /// What a step appended.
+    #[inline(always)]
     pub(crate) fn at(&self, step: usize) -> Option<Seen>
         requires { step < length self.now.items }
         ensures { slice_get self.now.items step ≡ Some result }

@@ -11,10 +11,8 @@ ghost use Rattle.uv_loop.specs.Course.{Adds, Drops, first_image};
 use crate::arena_loop::{ArenaLoop, fresh_memory};
 use crate::laying::layout_of;
 use crate::listing::{free_slots, listed_ids};
-use crate::plan::outside_of;
 use crate::pooling::finish_work;
 use crate::showing::{run_at, shown, shown_name, shown_slot, shown_worker};
-use crate::staging::is_staged;
 use crate::steps::Steps;
 use std::alloc::Global;
 use uv_ids::{Event, Fault, Id, Seen, Var, Why};
@@ -50,22 +48,16 @@ impl Machine for ArenaLoop {
         })
     }
 
-    /// An accepted step adds its record, by which `back` takes it back.
+    /// An accepted step adds its record, by which `back` takes it back. Its line is read from where it lies, where a caller asks for it.
+    #[inline(always)]
     fn step(&mut self, event: Event) -> Result<Outcome, Fault>
         ensures program { self.new.program ≡ self.old.program }
         ensures answer { Answers STEPS self.old.program self.old.standing event result self.new.standing }
         ensures records { Adds result self.old self.new }
     {
-        match outside_of(event) {
-            None => {
-                if is_staged(self.memory.place()) {
-                    self.go_on()
-                } else {
-                    self.go_on_wide()
-                }
-            }
-            Some(outside) => self.meet(outside),
-        }
+        self.take(event)?;
+        let seen = self.last_line();
+        Ok(Outcome { seen })
     }
 
     /// An accepted finish adds its record as well.

@@ -3,9 +3,8 @@
 //! and hands on no more than it has to.
 ghost use Rattle.std.specs.Prelude.{◌≡◌, ◌<◌, ◌≤◌, OnOk, length, true, false};
 ghost use Rattle.uv_ids.specs.declared.event.Event.TheVariants.{Loop};
-ghost use Rattle.uv_model.specs.After.{Answers, STEPS};
 ghost use Rattle.uv_memory.specs.Image.{held};
-ghost use Rattle.uv_loop.specs.Course.{Adds};
+ghost use Rattle.uv_loop.specs.Course.{Adds, Takes};
 ghost use Rattle.uv_loop.specs.Acting.{outside_event};
 ghost use Rattle.uv_loop.specs.Staged.{is_staged};
 ghost use Rattle.uv_loop.specs.Taken.{AreRoomier};
@@ -13,13 +12,14 @@ ghost use Rattle.uv_loop.specs.Taken.{AreRoomier};
 use crate::acting::act;
 use crate::arena_loop::ArenaLoop;
 use crate::looping::{stage_on, turn};
-use crate::plan::Outside;
+use crate::plan::{Outside, outside_of};
 use crate::planning::{loop_refusal, plan_of};
+use crate::staging::is_staged;
 use crate::steps::Steps;
 use std::alloc::AllocError;
-use uv_ids::Fault;
+use uv_ids::{Event, Fault};
 use uv_memory::Memory;
-use uv_model::{Outcome, STEPS};
+use uv_model::STEPS;
 use uv_stands::PackedPlace;
 
 /// Makes room for one step more, and on the heap for the timer of each slot that is used.
@@ -35,12 +35,31 @@ fn make_room(steps: &mut Steps, memory: &mut Memory<PackedPlace>) -> Result<(), 
 }
 
 impl ArenaLoop {
+    /// Takes a step, whose line lies in its row then.
+    #[inline(always)]
+    pub(crate) fn take(&mut self, event: Event) -> Result<(), Fault>
+        ensures program { self.new.program ≡ self.old.program }
+        ensures answer { Takes self.old.program self.old.standing event result self.new.standing }
+        ensures records { Adds result self.old self.new }
+    {
+        match outside_of(event) {
+            None => {
+                if is_staged(self.memory.place()) {
+                    self.go_on()
+                } else {
+                    self.go_on_wide()
+                }
+            }
+            Some(outside) => self.meet(outside),
+        }
+    }
+
     /// The loop does its next step in a stage but the done section.
     #[inline(never)]
-    pub(crate) fn go_on(&mut self) -> Result<Outcome, Fault>
+    pub(crate) fn go_on(&mut self) -> Result<(), Fault>
         requires staged { is_staged self.old.walk.image.place ≡ true }
         ensures program { self.new.program ≡ self.old.program }
-        ensures answer { Answers STEPS self.old.program self.old.standing Loop result self.new.standing }
+        ensures answer { Takes self.old.program self.old.standing Loop result self.new.standing }
         ensures records { Adds result self.old self.new }
     {
         if self.steps.len() >= STEPS {
@@ -56,15 +75,15 @@ impl ArenaLoop {
         self.memory.is_sound();
         let line = stage_on(&mut self.memory, &self.script);
         self.steps.push_packed(&line, self.memory.step_record());
-        Ok(Outcome { seen: line.seen() })
+        Ok(())
     }
 
     /// The loop does its next step in the main program, in a body or in the done section: its line may be a wide one.
     #[inline(never)]
-    pub(crate) fn go_on_wide(&mut self) -> Result<Outcome, Fault>
+    pub(crate) fn go_on_wide(&mut self) -> Result<(), Fault>
         requires other { is_staged self.old.walk.image.place ≡ false }
         ensures program { self.new.program ≡ self.old.program }
-        ensures answer { Answers STEPS self.old.program self.old.standing Loop result self.new.standing }
+        ensures answer { Takes self.old.program self.old.standing Loop result self.new.standing }
         ensures records { Adds result self.old self.new }
     {
         if self.steps.len() >= STEPS {
@@ -82,14 +101,14 @@ impl ArenaLoop {
             return Err(Fault::Memory);
         };
         self.steps.push(seen, self.memory.step_record());
-        Ok(Outcome { seen })
+        Ok(())
     }
 
     /// A step from outside.
     #[inline(never)]
-    pub(crate) fn meet(&mut self, outside: Outside) -> Result<Outcome, Fault>
+    pub(crate) fn meet(&mut self, outside: Outside) -> Result<(), Fault>
         ensures program { self.new.program ≡ self.old.program }
-        ensures answer { Answers STEPS self.old.program self.old.standing (outside_event outside) result self.new.standing }
+        ensures answer { Takes self.old.program self.old.standing (outside_event outside) result self.new.standing }
         ensures records { Adds result self.old self.new }
     {
         if self.steps.len() >= STEPS {
@@ -106,6 +125,6 @@ impl ArenaLoop {
         let line = act(&mut self.memory, &self.script, plan);
         let seen = Some(line);
         self.steps.push(seen, self.memory.step_record());
-        Ok(Outcome { seen })
+        Ok(())
     }
 }

@@ -2,7 +2,7 @@ use Rattle.uv_loop.proofs.Names.{sym, ap, arith, Loop, held}
 use Rattle.uv_loop.proofs.Courses.{answers_refusing}
 use Rattle.uv_loop.proofs.Ready.{granted, course_ready, course_last, course_clear}
 use Rattle.uv_loop.proofs.Told.{few_events}
-use Rattle.uv_loop.proofs.Begun.{begun, unfinished, stands, answers}
+use Rattle.uv_loop.proofs.Begun.{begun, unfinished, stands, takes}
 use Rattle.uv_loop.proofs.arena_loop.ArenaLoop.go_on.Goals as goal
 
 pub returns-in-Some-clause-answer : goal.returns-in-Some-clause-answer
@@ -41,6 +41,6 @@ invariant_of-self-2 c =
 
 pub returns-clause-answer : goal.returns-clause-answer
 returns-clause-answer c =
-    rw (c.seen.ensures) (answers Loop c.self.invariant c.self.view_is c.make_room.ensures.same (held c.stage_on-line.new.memory) (omega arith)
+    takes Loop c.self.invariant c.self.view_is c.make_room.ensures.same (held c.stage_on-line.new.memory) (omega arith)
     c.stage_on-line.ensures.turns.1
-    (rw c.step_record.ensures at c.push_packed.ensures))
+    (rw c.step_record.ensures at c.push_packed.ensures) c.stage_on-line.ensures.turns.0

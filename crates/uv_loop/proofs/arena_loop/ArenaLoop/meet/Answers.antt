@@ -2,7 +2,7 @@ use Rattle.uv_loop.proofs.Names.{sym, ap, arith, held, outside_event}
 use Rattle.uv_loop.proofs.Courses.{answers_refusing}
 use Rattle.uv_loop.proofs.Ready.{granted, course_ready}
 use Rattle.uv_loop.proofs.Told.{few_events}
-use Rattle.uv_loop.proofs.Begun.{begun, unfinished, stands, answers}
+use Rattle.uv_loop.proofs.Begun.{begun, unfinished, stands, takes}
 use Rattle.uv_loop.proofs.arena_loop.ArenaLoop.meet.Goals as goal
 
 pub returns-in-Err-clause-answer : goal.returns-in-Err-clause-answer
@@ -36,5 +36,5 @@ invariant_of-self-2 c =
 
 pub returns-clause-answer : goal.returns-clause-answer
 returns-clause-answer c =
-    answers (outside_event c.args.outside) c.self.invariant c.self.view_is c.make_room.ensures.same (held c.act-line.new.memory) (omega arith)
-    (rw c.in-Ok.ensures.event at c.act-line.ensures.leads) (rw c.step_record.ensures at c.push.ensures)
+    takes (outside_event c.args.outside) c.self.invariant c.self.view_is c.make_room.ensures.same (held c.act-line.new.memory) (omega arith)
+    (rw c.in-Ok.ensures.event at c.act-line.ensures.leads) (rw c.step_record.ensures at c.push.ensures) c.act-line.ensures.returns
