@@ -1,17 +1,20 @@
 """What the tests share: a command that is run, and what was tried and what of it failed.
 
 A runner makes one `Tries`, hands it on to its parts, and ends with `end`. So each of them prints a line for each try that failed and for
-each that had to be left out, and at its end one line that says how many there were.
+each that had to be left out, and at its end one line that says how many there were. Runners that have parts try each of them by a process of its
+own, several at a time (`side_by_side`).
 """
 
 from __future__ import annotations
 
 import lzma
 import os
+import re
 import select
 import subprocess
 import tempfile
 import time
+from concurrent.futures import ThreadPoolExecutor
 from pathlib import Path
 from typing import Any, Callable
 
@@ -53,6 +56,31 @@ class Tries:
         """The line at the end, and the status."""
         self.say(f"{self.count} tried, {self.failed} failed")
         return 1 if self.failed else 0
+
+
+# So many parts at a time: they wait for half of their time, for runs that sleep and for hunts that go by the clock. On a machine that is busy
+# already no more than there are processors.
+PROCESSORS = os.cpu_count() or 1
+AT_ONCE = PROCESSORS * (1 if os.getloadavg()[0] > PROCESSORS else 2)
+
+
+def tried_alone(words: list[str]) -> tuple[int, int]:
+    """Tries a part by a runner's process, and says what that says. How many were tried, and how many failed."""
+    ran = subprocess.run(words, stdout=subprocess.PIPE, stderr=subprocess.STDOUT, text=True, errors="replace")
+    *said, last = ran.stdout.splitlines() or [""]
+    counts = re.fullmatch(r"\w+: (\d+) tried, (\d+) failed", last)
+    if not counts:
+        said += [last, f"{' '.join(words)}: it ended with status {ran.returncode}, and without its count"]
+    print("".join(f"{line}\n" for line in said), end="", flush=True)
+    return (int(counts[1]), int(counts[2])) if counts else (1, 1)
+
+
+def side_by_side(tries: Tries, calls: list[list[str]], jobs: int) -> None:
+    """So many calls of runners at a time, in this order: what they have tried counts as tried."""
+    with ThreadPoolExecutor(jobs) as pool:
+        for tried, failed in pool.map(tried_alone, calls):
+            tries.count += tried
+            tries.failed += failed
 
 
 def limited(words: list[Any], seconds: float = SECONDS, **how: Any) -> subprocess.CompletedProcess[Any]:

@@ -126,6 +126,8 @@ BUSY = re.compile(
 REAL = ("./late", "late.rec", "./upload", "upload.hunt", "race.uvt", "stalls.")
 # So often more a real run may go another way than the page shows.
 AGAIN = 8
+# What of out/ goes along: other tests are at work in the copy.
+KEPT = {"uvt", "uvt_find"}
 # Of README.md.
 MOST_LINES = 200
 
@@ -316,7 +318,7 @@ def try_commands(check: Check, copy: str, room: str, proved: bool) -> None:
     """The copy has a program already, as behind the first command."""
     folder, home = os.path.join(room, "clone"), os.path.join(room, "home")
     os.mkdir(home)
-    shutil.copytree(copy, folder, symlinks=True)
+    shutil.copytree(copy, folder, symlinks=True, ignore=lambda at, names: {*names} - KEPT if at == os.path.join(copy, "out") else {".pytest_cache"})
     walker = Walker(check, "./uvt", folder, home, dict(os.environ), proved)
     lines = Path(folder, "README.md").read_text(encoding="utf-8").count("\n")
     check("README.md is a front page", lines <= MOST_LINES, "it has %d lines" % lines)

@@ -1,9 +1,10 @@
-"""Tries the program as a user has it: tests/program/run [--built | --program PATH [--search PATH]]
+"""Tries the program as a user has it: tests/program/run [--built | --program PATH [--search PATH]] [-j N] [PART..]
 
 It works on a copy of the repository in a temporary folder. There the launcher compiles the program before any proof for a first call, begins a
 build and is stopped, and builds the program; with --built the copy is then given the program and the search that this repository's
 launcher has built, and with --program that file, as if it had been built: then only the search is compiled, unless --search gives that, too
-(so does `./uvt test`, with the programs before their proofs). And then these are tried, each by the launcher:
+(so does `./uvt test`, with the programs before their proofs). And then these are tried, each by the launcher, in parts that go side by side, each
+in a process of its own:
 
   - each script of examples/ prints the .out beside it, and what `record` shows behind it is replayed as `same`
   - each recording of examples/ is replayed as the .out beside it says
@@ -51,7 +52,7 @@ import sys
 import tempfile
 
 HERE = os.path.dirname(os.path.realpath(__file__))
-from tests.helper import Tries, limited, talked, waited
+from tests.helper import AT_ONCE, Tries, limited, side_by_side, talked, waited
 from tests.libuv import cases
 from tests.machines import build
 from tests.program import asked
@@ -64,6 +65,7 @@ from tests.program import pages
 from tests.program import reached
 from tests.program import scripts
 from tests.program import widths
+from tests.tools import run as tools
 
 ROOT = os.path.dirname(os.path.dirname(HERE))
 SECONDS = 600
@@ -490,9 +492,9 @@ def is_proved(folder):
         return b"rattle logic=" in file.read()
 
 
-def try_packages(folder):
+def try_packages(uvt, folder, room):
     if not is_proved(folder):
-        print("program: the packages: not tried, since the program is none that was proved", flush=True)
+        TRIES.leave_out("the packages", "the program is none that was proved")
         return
     packages = subprocess.run([os.path.join(folder, "tests", "package", "run")], stdout=subprocess.PIPE, stderr=subprocess.STDOUT)
     check("the packages", packages.returncode == 0, packages.stdout.decode())
@@ -527,12 +529,21 @@ def try_examples(uvt, folder):
         try_beginnings(uvt, file.read())
 
 
-def try_all(uvt, folder, room):
-    again = run(uvt, ["debug"], b"begin\n")
-    check("a built program starts at once", again.stderr == b"", "errors %r" % again.stderr)
-    if TRIES.failed:
+def try_refused(uvt, folder, room):
+    if not is_proved(folder):
+        TRIES.leave_out("refused allocations", "those of the program before its proofs are not those of the C library")
         return
-    try_examples(uvt, folder)
+    check("a C compiler", shutil.which("cc") is not None, "there is no `cc`, so no allocation was refused")
+    tries = os.path.join(ROOT, "crates", "tries_again", "out", "tries_again")
+    check("tries_again", os.access(tries, os.X_OK), "it isn't built: rt run in its crate builds it, and so does rt ci")
+    refused = subprocess.run(
+        [os.path.join(folder, "tests", "refused-allocations", "run")], stdout=subprocess.PIPE, env={**os.environ, "TRIES": tries}
+    )
+    check("refused allocations", refused.returncode == 0, refused.stdout.decode())
+
+
+def try_calls(uvt, folder, room):
+    """The program and the launcher, called in many ways."""
     try_pages(uvt, folder)
     try_open_pipe(uvt)
     try_terminal(uvt, folder)
@@ -544,11 +555,12 @@ def try_all(uvt, folder, room):
     try_faults(uvt)
     called.try_words(check, uvt)
     called.try_files(check, uvt, room)
-    called.try_reasons(check, uvt, room)
     called.try_recordings(check, uvt, room)
     called.try_terminal(check, uvt, room)
-    launcher.try_with_stand_in(check, os.path.join(folder, "out", "uvt", "uvt"))
-    pages.try_commands(check, folder, room, is_proved(folder))
+
+
+def try_texts(uvt, folder, room):
+    """What the files say of one another."""
     try_claims(folder)
     names.try_names(check, folder)
     asked.try_asked(check, folder)
@@ -556,23 +568,43 @@ def try_all(uvt, folder, room):
     left = reached.wrong()
     check("what no program calls", not left, "\n".join(left))
     widths.try_widths(check, folder)
-    try_packages(folder)
-    tools = subprocess.run(
-        [os.path.join(folder, "tests", "tools", "run"), "-j", str(os.cpu_count() or 1), "--program", os.path.join(folder, "out", "uvt", "uvt")],
-        stdout=subprocess.PIPE,
-        stderr=subprocess.STDOUT,
-    )
-    check("the tools", tools.returncode == 0, tools.stdout.decode())
-    if not is_proved(folder):
-        TRIES.leave_out("refused allocations", "those of the program before its proofs are not those of the C library")
-        return
-    check("a C compiler", shutil.which("cc") is not None, "there is no `cc`, so no allocation was refused")
-    tries = os.path.join(ROOT, "crates", "tries_again", "out", "tries_again")
-    check("tries_again", os.access(tries, os.X_OK), "it isn't built: rt run in its crate builds it, and so does rt ci")
-    refused = subprocess.run(
-        [os.path.join(folder, "tests", "refused-allocations", "run")], stdout=subprocess.PIPE, env={**os.environ, "TRIES": tries}
-    )
-    check("refused allocations", refused.returncode == 0, refused.stdout.decode())
+
+
+# Each with the launcher of a copy that has its programs, the copy, and a folder. Those that take longest come first.
+PARTS = {
+    "pages": lambda uvt, folder, room: pages.try_commands(check, folder, room, is_proved(folder)),
+    "refused": try_refused,
+    "packages": try_packages,
+    "reasons": lambda uvt, folder, room: called.try_reasons(check, uvt, room),
+    "calls": try_calls,
+    "examples": lambda uvt, folder, room: try_examples(uvt, folder),
+    "launcher": lambda uvt, folder, room: launcher.try_with_stand_in(check, os.path.join(folder, "out", "uvt", "uvt")),
+    "texts": try_texts,
+}
+LONGEST = 3
+
+
+def calls_of(folder, parts):
+    """Parts, each as a call of its runner: these of the program, or all of them and those of the tools."""
+    own = [[os.path.join(HERE, "run"), "--copy", folder, it] for it in PARTS if not parts or it in parts]
+    if parts:
+        return own
+    words = [os.path.join(folder, "tests", "tools", "run"), "--program", os.path.join(folder, "out", "uvt", "uvt")]
+    others = [[*words, it] for it in tools.in_order(tools.PARTS)]
+    many = len(tools.LONGEST)
+    return own[:LONGEST] + others[:many] + own[LONGEST:] + others[many:]
+
+
+def try_part(name, folder):
+    with tempfile.TemporaryDirectory(prefix="uvt-program-") as room:
+        PARTS[name](os.path.join(folder, "uvt"), folder, room)
+
+
+def try_all(folder, parts, jobs):
+    again = run(os.path.join(folder, "uvt"), ["debug"], b"begin\n")
+    check("a built program starts at once", again.stderr == b"", "errors %r" % again.stderr)
+    if not TRIES.failed:
+        side_by_side(TRIES, calls_of(folder, parts), jobs)
 
 
 def try_claims(folder):
@@ -601,13 +633,35 @@ def asked_for():
     reader.add_argument("--built", action="store_true", help="over the program and the search that the launcher has built")
     reader.add_argument("--program", metavar="PATH", help="over this program")
     reader.add_argument("--search", metavar="PATH", help="and this search")
+    reader.add_argument("--copy", metavar="FOLDER", help="over a copy of the repository that has both; its parts one behind the other")
+    reader.add_argument("-j", dest="jobs", metavar="N", type=int, default=AT_ONCE, help="so many parts at a time, now %d without it" % AT_ONCE)
+    reader.add_argument("parts", nargs="*", metavar="PART", help="only these parts, of %s" % ", ".join(PARTS))
     asked = reader.parse_args()
     for path in filter(None, (asked.program, asked.search)):
         if not os.path.isfile(path):
             reader.error("there is no file %s" % path)
-    if asked.built and asked.program or asked.search and not asked.program:
-        reader.error("--built has both programs, and --search stands beside --program")
+    for name in asked.parts:
+        if name not in PARTS:
+            reader.error("there is no part %s: they are %s" % (name, ", ".join(PARTS)))
+    if asked.built + bool(asked.program) + bool(asked.copy) > 1 or asked.search and not asked.program:
+        reader.error("--built and --copy have both programs, and --search stands beside --program")
     return asked
+
+
+def give_asked(words, folder, room):
+    """Gives the copy its programs; without any they are built."""
+    if words.program:
+        TRIES.leave_out("the launcher with the kit", "these programs were given as built")
+        give(folder, words.program)
+    else:
+        launcher.try_with_kit(check, folder, room)
+    if words.search:
+        give(folder, words.search, "uvt_find")
+    if words.built:
+        give_built(folder)
+    elif not words.program:
+        built = subprocess.run([os.path.join(folder, "uvt"), "build"])
+        check("the launcher builds", built.returncode == 0, "status %d" % built.returncode)
 
 
 def main():
@@ -616,24 +670,16 @@ def main():
         if words.built and not os.path.exists(os.path.join(ROOT, "out", crate, "sums")):
             check("the program %s is built" % crate, False, "there is none: ./uvt %s proves and builds it" % word)
             return TRIES.end()
+    if words.copy:
+        for name in words.parts or PARTS:
+            try_part(name, words.copy)
+        return TRIES.end()
     room = tempfile.mkdtemp(prefix="uvt-program-")
     folder = os.path.join(room, "copy")
     try:
         copy_to(folder)
-        uvt = os.path.join(folder, "uvt")
-        if words.program:
-            TRIES.leave_out("the launcher with the kit", "these programs were given as built")
-            give(folder, words.program)
-        else:
-            launcher.try_with_kit(check, folder, room)
-        if words.search:
-            give(folder, words.search, "uvt_find")
-        if words.built:
-            give_built(folder)
-        elif not words.program:
-            built = subprocess.run([uvt, "build"])
-            check("the launcher builds", built.returncode == 0, "status %d" % built.returncode)
-        try_all(uvt, folder, room)
+        give_asked(words, folder, room)
+        try_all(folder, words.parts, words.jobs)
     finally:
         shutil.rmtree(room, ignore_errors=True)
     return TRIES.end()

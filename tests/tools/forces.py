@@ -15,6 +15,7 @@ import signal
 import subprocess
 import tempfile
 import time
+from collections.abc import Callable
 from pathlib import Path
 from unittest.mock import Mock, patch
 from xml.etree import ElementTree
@@ -476,29 +477,16 @@ def try_parts(check: Check, folder: str) -> None:
     check("hunt, a part that hangs, joined", status == BADLY and "    the loop's thread waits for the end of thread " in said, f"{status} {said}")
 
 
-HUNTS = (
-    *(
-        try_sanitizer,
-        try_random,
-        try_hunts,
-        try_kept,
-        try_long_ones,
-        try_steady,
-        try_hangs,
-        try_first,
-        try_late_start,
-        try_unwritten,
-        try_results,
-        try_reports,
-        try_interrupt,
-    ),
-    try_parts,
-)
+Step = Callable[[Check, str], None]
+HUNTS: tuple[Step, ...] = (try_sanitizer, try_random, try_hunts, try_kept, try_long_ones, try_interrupt)
+HANGING: tuple[Step, ...] = (try_hangs, try_first)
+STARTED: tuple[Step, ...] = (try_steady, try_late_start, try_unwritten)
+TOLD: tuple[Step, ...] = (try_results, try_reports, try_parts)
 
 
 def try_forces(tries: Tries) -> None:
     if not has_libuv():
-        print("tools: orders that are forced: not tried, since there is no C compiler `cc` with libuv's header", flush=True)
+        tries.leave_out("orders that are forced", "there is no C compiler `cc` with libuv's header")
         return
     with tempfile.TemporaryDirectory() as folder:
         sanitizer = has_sanitizer(folder)
@@ -511,8 +499,29 @@ def try_forces(tries: Tries) -> None:
         if libuv := archive():
             status, said = forced(["-o", "within.forced", str(FOLDER / "starve.uvt"), compiled("starve", folder, libuv)], folder)
             tries.check("force, libuv within the program", status == WELL and is_whole(said), said)
-        if not sanitizer:
-            print("tools: orders that are hunted: not tried, since `cc` has no AddressSanitizer", flush=True)
+
+
+def each_of(tries: Tries, steps: tuple[Step, ...]) -> None:
+    """Hunts, in a folder that is theirs."""
+    with tempfile.TemporaryDirectory() as folder:
+        if not has_libuv() or not has_sanitizer(folder):
+            tries.leave_out("orders that are hunted", "there is no C compiler `cc` with libuv's header and AddressSanitizer")
             return
-        for part in HUNTS:
-            part(tries.check, folder)
+        for step in steps:
+            step(tries.check, folder)
+
+
+def try_hunted(tries: Tries) -> None:
+    each_of(tries, HUNTS)
+
+
+def try_hanging(tries: Tries) -> None:
+    each_of(tries, HANGING)
+
+
+def try_started(tries: Tries) -> None:
+    each_of(tries, STARTED)
+
+
+def try_told(tries: Tries) -> None:
+    each_of(tries, TOLD)

@@ -443,20 +443,42 @@ def try_node(check: Check, room: Room) -> None:
     check("keep, node: a timer that was started before has its name", re.search(wanted, " ".join(ran.stdout.split())), said(ran))
 
 
+def with_libuv(tries: Tries) -> bool:
+    has = has_libuv()
+    if not has:
+        tries.leave_out("programs that keep their last windows", "there is no C compiler `cc` with libuv's header")
+    return has
+
+
 def try_keeps(tries: Tries) -> None:
     with tempfile.TemporaryDirectory() as name:
         try_windows(tries.check, Path(name))
         try_dues(tries.check)
-        if not has_libuv():
-            tries.leave_out("programs that keep their last windows", "there is no C compiler `cc` with libuv's header")
+        if not with_libuv(tries):
             return
         room = Room(Path(name))
-        for part in (try_record, try_many_late, try_others, try_starts, try_opens, try_by_hand, try_ended, try_bounds, try_files):
+        for part in (try_record, try_by_hand, try_ended, try_bounds, try_files):
             part(tries.check, room)
         try_full(tries, room)
+
+
+def try_kept_apart(tries: Tries) -> None:
+    """What took long."""
+    if not with_libuv(tries):
+        return
+    with tempfile.TemporaryDirectory() as name:
+        room = Room(Path(name))
+        for part in (try_many_late, try_others, try_starts, try_opens):
+            part(tries.check, room)
         if platform.machine() == "x86_64":
             try_looks(tries, room)
-        if shutil.which("node"):
-            try_node(tries.check, room)
-        else:
-            tries.leave_out("a ring of a program in node", "there is no node")
+
+
+def try_kept_node(tries: Tries) -> None:
+    if not with_libuv(tries):
+        return
+    if not shutil.which("node"):
+        tries.leave_out("a ring of a program in node", "there is no node")
+        return
+    with tempfile.TemporaryDirectory() as name:
+        try_node(tries.check, Room(Path(name)))

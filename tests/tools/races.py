@@ -4,6 +4,7 @@ status 1 in some order of what comes to its loop; what is assumed of that order 
 
 from __future__ import annotations
 
+import contextlib
 import os
 import re
 import shutil
@@ -40,12 +41,18 @@ def has(*words: str) -> bool:
     return bool(shutil.which(words[0])) and limited([*words], capture_output=True).returncode == 0
 
 
+def hurry() -> None:
+    """This process waits for no processor, where that may be asked for."""
+    with contextlib.suppress(OSError):
+        os.sched_setscheduler(0, os.SCHED_RR, os.sched_param(1))
+
+
 def try_race(tries: Tries, words: list[str], folder: str) -> None:
     name = Path(words[-1]).name
-    # (where others have the processors it may lose its race by itself, now and then)
-    alone = [limited(words, capture_output=True, text=True, cwd=folder)]
+    # (where others have the processors it may lose its race by itself)
+    alone = [limited(words, capture_output=True, text=True, cwd=folder, preexec_fn=hurry)]
     while alone[-1].returncode and len(alone) < ALONE:
-        alone.append(limited(words, capture_output=True, text=True, cwd=folder))
+        alone.append(limited(words, capture_output=True, text=True, cwd=folder, preexec_fn=hurry))
     tries.check(f"{name}, by itself", alone[-1].returncode == 0, alone)
     status, said = hunted(["-o", f"{name}.found", *words], folder)
     found = re.match(r"the program ended with status 1, and in (\d+) of 10 further runs in the same order\n", said)
@@ -69,27 +76,43 @@ def try_healthy(tries: Tries, words: list[str], folder: str) -> None:
     tries.check(f"hunt, {Path(words[-1]).name}, which is healthy", status == WELL and said.startswith("each run ended well\n"), f"{status} {said}")
 
 
+def has_node(tries: Tries) -> bool:
+    """One in which libuv is seen, and its threads' sends are kept back."""
+    has_it = has("node", "-e", "process.exit(+process.versions.node.split('.')[0] >= 20 ? 0 : 1)")
+    if not has_it:
+        tries.leave_out("hunts in node", "there is no node 20")
+    return has_it
+
+
 def try_races(tries: Tries) -> None:
     with tempfile.TemporaryDirectory() as folder:
-        # (in which libuv is seen, and its threads' sends are kept back)
-        if has("node", "-e", "process.exit(+process.versions.node.split('.')[0] >= 20 ? 0 : 1)"):
-            for name in NODE:
-                try_race(tries, ["node", str(HERE / "javascript" / "races" / f"{name}.js")], folder)
-            for name in HEALTHY_NODE:
-                try_healthy(tries, ["node", str(HERE / "javascript" / f"{name}.js")], folder)
-        else:
-            tries.leave_out("races in node", "there is no node 20")
-        if has(PYTHON, "-c", "import uvloop"):
-            for name in UVLOOP:
-                try_race(tries, [PYTHON, str(HERE / "python" / "races" / f"{name}.py")], folder)
-            try_healthy(tries, [PYTHON, str(HERE / "python" / "races" / "healthy.py")], folder)
-            try_lock(tries, folder)
-        else:
-            tries.leave_out("races in Python", f"there is no uvloop for {PYTHON}")
-        # (LuaJIT's compiled code has no frames that anybody could follow)
-        os.environ["LUA_PATH"] = f"{HERE / 'lua'}/?.lua;;"
-        if has("luajit", "-e", "require('luv')"):
-            for name in HEALTHY_LUA:
-                try_healthy(tries, ["luajit", str(HERE / "lua" / f"{name}.lua")], folder)
-        else:
-            tries.leave_out("healthy programs in Lua", "there is no luajit with luv")
+        for name in NODE if has_node(tries) else ():
+            try_race(tries, ["node", str(HERE / "javascript" / "races" / f"{name}.js")], folder)
+
+
+def try_healthy_node(tries: Tries) -> None:
+    with tempfile.TemporaryDirectory() as folder:
+        for name in HEALTHY_NODE if has_node(tries) else ():
+            try_healthy(tries, ["node", str(HERE / "javascript" / f"{name}.js")], folder)
+
+
+def try_uvloop(tries: Tries) -> None:
+    if not has(PYTHON, "-c", "import uvloop"):
+        tries.leave_out("races in Python", f"there is no uvloop for {PYTHON}")
+        return
+    with tempfile.TemporaryDirectory() as folder:
+        for name in UVLOOP:
+            try_race(tries, [PYTHON, str(HERE / "python" / "races" / f"{name}.py")], folder)
+        try_healthy(tries, [PYTHON, str(HERE / "python" / "races" / "healthy.py")], folder)
+        try_lock(tries, folder)
+
+
+def try_healthy_lua(tries: Tries) -> None:
+    # (LuaJIT's compiled code has no frames that anybody could follow)
+    os.environ["LUA_PATH"] = f"{HERE / 'lua'}/?.lua;;"
+    if not has("luajit", "-e", "require('luv')"):
+        tries.leave_out("healthy programs in Lua", "there is no luajit with luv")
+        return
+    with tempfile.TemporaryDirectory() as folder:
+        for name in HEALTHY_LUA:
+            try_healthy(tries, ["luajit", str(HERE / "lua" / f"{name}.lua")], folder)

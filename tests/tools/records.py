@@ -687,22 +687,33 @@ def try_records(tries: Tries) -> None:
         for name in WANTED:
             try_log(check, name, folder)
         try_io(check, folder)
-        try_changed(check, folder)
         try_faults(check, folder)
         try_unseen(check, folder)
-        try_long(check, folder)
-        try_worst(check, folder)
-        try_talk(check, folder)
         try_whys_of_parts(check, folder)
         try_compiled(check, folder)
-        if has_libuv():
-            try_programs(check, folder)
-            try_queued_again(check, folder)
-        else:
-            print("tools: recording of programs: not tried, since there is no C compiler `cc` with libuv's header", flush=True)
-        if libuv := archive():
-            try_within(check, folder, libuv)
-        else:
-            print("tools: a libuv within the program: not tried: no x86-64, no capstone (libcapstone-dev), or no static library of libuv", flush=True)
     try_sharpness(check)
     try_pages(check)
+
+
+def try_logs(tries: Tries) -> None:
+    """Logs that are changed, and long ones."""
+    os.environ["UVT"] = built_program()
+    with tempfile.TemporaryDirectory() as folder:
+        try_changed(tries.check, folder)
+        try_long(tries.check, folder)
+        try_worst(tries.check, folder)
+        try_talk(tries.check, folder)
+
+
+def try_recorded(tries: Tries) -> None:
+    os.environ["UVT"] = built_program()
+    with tempfile.TemporaryDirectory() as folder:
+        if has_libuv():
+            try_programs(tries.check, folder)
+            try_queued_again(tries.check, folder)
+        else:
+            tries.leave_out("recording of programs", "there is no C compiler `cc` with libuv's header")
+        if libuv := archive():
+            try_within(tries.check, folder, libuv)
+        else:
+            tries.leave_out("a libuv within the program", "no x86-64, no capstone (libcapstone-dev), or no static library of libuv")

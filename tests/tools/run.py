@@ -43,40 +43,37 @@ from __future__ import annotations
 import argparse
 import os
 import pty
-import re
 import select
 import signal
-import subprocess
 import tempfile
 import time
-from concurrent.futures import ThreadPoolExecutor
 from pathlib import Path
-from typing import Callable
+from typing import Callable, Iterable
 
-from tests.helper import EXAMPLES, ROOT, Tries, limited
+from tests.helper import EXAMPLES, ROOT, Tries, limited, side_by_side
 from tests.tools.attaches import try_attaches
 from tests.tools.daps import BEFORE_SENDS, CONVERSATIONS, try_adapter
 from tests.tools.devtools import try_devtools
 from tests.tools.editors import try_editors
 from tests.tools.finds import try_find
-from tests.tools.forces import try_forces
+from tests.tools.forces import try_forces, try_hanging, try_hunted, try_started, try_told
 from tests.tools.formed import try_form
 from tests.tools.fuzz import try_fuzz
 from tests.tools.harms import try_harms
 from tests.tools.held import try_held
 from tests.tools.interpreters import try_interpreters
 from tests.tools.javascripts import try_javascript
-from tests.tools.keeps import try_keeps
+from tests.tools.keeps import try_keeps, try_kept_apart, try_kept_node
 from tests.tools.libuvs import try_libuv
 from tests.tools.panes import try_panes
-from tests.tools.races import try_races
-from tests.tools.records import try_records
+from tests.tools.races import try_healthy_lua, try_healthy_node, try_races, try_uvloop
+from tests.tools.records import try_logs, try_recorded, try_records
 from tests.tools.shorts import try_shorter
 from tests.tools.starts import try_starts
 from tests.tools.trace_events import try_trace_events
 from tests.tools.besides import try_besides
 from tests.tools.truths import try_truths
-from tests.tools.unharmed import try_unharmed
+from tests.tools.unharmed import try_unharmed, try_unharmed_more
 from tests.tools.views import try_views
 from tests.tools.whys import try_whys
 from tests.tools.words import try_old_words
@@ -324,43 +321,43 @@ PARTS: dict[str, Callable[[Tries], None]] = {
     "truths": try_truths,
     "besides": try_besides,
     "records": try_records,
+    "logs": try_logs,
+    "recorded": try_recorded,
     "keeps": try_keeps,
+    "kept-apart": try_kept_apart,
+    "kept-node": try_kept_node,
     "attaches": try_attaches,
     "held": try_held,
     "harms": try_harms,
     "forces": try_forces,
+    "hunted": try_hunted,
+    "hanging": try_hanging,
+    "started": try_started,
+    "told": try_told,
     "races": try_races,
+    "uvloop": try_uvloop,
+    "healthy-node": try_healthy_node,
+    "healthy-lua": try_healthy_lua,
     "javascript": try_javascript,
     "interpreters": try_interpreters,
     "shorter": try_shorter,
     "fuzz": try_fuzz,
     "starts": try_starts,
     "unharmed": try_unharmed,
+    "unharmed-more": try_unharmed_more,
     "words": try_old_words,
     "form": try_form,
 }
 # Those that take longest, the longest one first.
-LONGEST = ("races", "forces", "records", "unharmed", "keeps", "adapter", "javascript", "fuzz", "truths", "find")
+LONGEST = (
+    *("hanging", "races", "healthy-node", "unharmed", "keeps", "started", "hunted", "told", "unharmed-more", "uvloop", "forces", "form", "fuzz"),
+    *("logs", "harms", "recorded", "kept-apart", "records", "healthy-lua", "starts", "find", "attaches", "kept-node", "trace-events", "javascript"),
+)
 
 
-def tried_alone(program: list[str], name: str) -> tuple[int, int]:
-    """Tries a part in a process of its own, and says what that says. How many were tried, and how many failed."""
-    ran = subprocess.run([str(HERE / "run"), *program, name], stdout=subprocess.PIPE, stderr=subprocess.STDOUT, text=True, errors="replace")
-    *said, last = ran.stdout.splitlines() or [""]
-    counts = re.fullmatch(r"tools: (\d+) tried, (\d+) failed", last)
-    if not counts:
-        said += [last, f"tools: {name}: it ended with status {ran.returncode}, and without its count"]
-    print("".join(f"{line}\n" for line in said), end="", flush=True)
-    return (int(counts[1]), int(counts[2])) if counts else (1, 1)
-
-
-def try_side_by_side(tries: Tries, program: list[str], names: list[str], jobs: int) -> None:
-    """So many parts at a time, the longest ones first."""
-    ordered = [*(it for it in LONGEST if it in names), *(it for it in names if it not in LONGEST)]
-    with ThreadPoolExecutor(jobs) as pool:
-        for tried, failed in pool.map(lambda name: tried_alone(program, name), ordered):
-            tries.count += tried
-            tries.failed += failed
+def in_order(names: Iterable[str]) -> list[str]:
+    """The longest ones first."""
+    return sorted(names, key=lambda name: LONGEST.index(name) if name in LONGEST else len(LONGEST))
 
 
 def main() -> int:
@@ -377,7 +374,8 @@ def main() -> int:
         os.environ["UVT"] = asked.program
     tries, names = Tries("tools"), asked.parts or list(PARTS)
     if asked.jobs > 1 and len(names) > 1:
-        try_side_by_side(tries, ["--program", asked.program] if asked.program else [], names, asked.jobs)
+        words = [str(HERE / "run"), *(["--program", asked.program] if asked.program else [])]
+        side_by_side(tries, [[*words, name] for name in in_order(names)], asked.jobs)
     else:
         for name in names:
             PARTS[name](tries)

@@ -118,24 +118,46 @@ def try_valgrind(check: Check, room: Room, programs: dict[str, list[str]], plain
         check(f"unharmed, {name}: its status under valgrind", status == plain[name], (status, plain[name]))
 
 
+Programs = tuple[dict[str, list[str]], dict[str, int]]
+
+
+def programs_of(room: Room, folders: tuple[Path, ...]) -> Programs:
+    """Those of these folders, compiled, and how each ends by itself."""
+    sources = [it for folder in folders for it in sorted(folder.glob("*.c"))]
+    programs = {it.stem: [compiled(it, room.folder), *WORDS.get(it.stem, [])] for it in sources}
+    return programs, {it: room.status(program) for it, program in programs.items()}
+
+
+def with_libuv(tries: Tries) -> bool:
+    has = has_libuv()
+    if not has:
+        tries.leave_out("programs under the recorder", "there is no C compiler `cc` with libuv's header")
+    return has
+
+
 def try_unharmed(tries: Tries) -> None:
-    if not has_libuv():
-        print("tools: programs under the recorder: not tried, since there is no C compiler `cc` with libuv's header", flush=True)
+    if not with_libuv(tries):
         return
     with tempfile.TemporaryDirectory() as name:
         room = Room(Path(name))
-        sources = [it for folder in PROGRAMS for it in sorted(folder.glob("*.c"))]
-        programs = {it.stem: [compiled(it, room.folder), *WORDS.get(it.stem, [])] for it in sources}
-        plain = {it: room.status(program) for it, program in programs.items()}
+        programs, plain = programs_of(room, PROGRAMS)
         for it, program in programs.items():
             status = room.status(program, room.preloaded(recorder()))
             tries.check(f"unharmed, {it}: its status", status == plain[it], (status, plain[it]))
         try_sanitized(tries.check, room, programs, plain)
-        first = {it.stem: programs[it.stem] for it in PROGRAMS[0].glob("*.c")}
-        try_valgrind(tries.check, room, first, plain)
+
+
+def try_unharmed_more(tries: Tries) -> None:
+    """The programs of the first folder under valgrind, and with a ring."""
+    if not with_libuv(tries):
+        return
+    with tempfile.TemporaryDirectory() as name:
+        room = Room(Path(name))
+        programs, plain = programs_of(room, PROGRAMS[:1])
+        try_valgrind(tries.check, room, programs, plain)
         room.ring = 2
-        try_sanitized(tries.check, room, first, plain)
-        try_valgrind(tries.check, room, first, plain)
+        try_sanitized(tries.check, room, programs, plain)
+        try_valgrind(tries.check, room, programs, plain)
 
 
 # ---- by hand
@@ -218,4 +240,5 @@ def main() -> int:
             tell_costs(room)
     if not asked.libuv and not asked.node and not asked.costs:
         try_unharmed(tries)
+        try_unharmed_more(tries)
     return tries.end()
