@@ -235,8 +235,8 @@ def changes() -> str:
 
 
 def version() -> str:
-    """The commit, behind the day and the time of it in UTC, so that a later one is an upgrade; `+changed` where the clone isn't what it has. Sources of
-    a Debian package have it in their changes."""
+    """The commit, behind the day and the time of it in UTC, so that a later one is an upgrade; `+changed` where the clone isn't what it has. Sources
+    of a Debian package have it in their changes."""
     found = git("log", "-1", "--date=format-local:%Y%m%d.%H%M%S", "--format=0~%cd.%h")
     said = re.match(r"uvt \((\S+)\)", changes())
     return (found or (said[1] if said else "0")) + ("+changed" if found and git("status", "--porcelain") else "")

@@ -1,4 +1,4 @@
-"""Debian's packages: the binary one, and the source one, of which debhelper makes the same. Their texts are in the folder debian/ beside this file."""
+"""Debian's packages: the binary one, and the source one, of which debhelper makes the same. Their texts are in debian/ beside this file."""
 
 from __future__ import annotations
 
