@@ -9,7 +9,8 @@
 The program is the one that ./uvt build has built, of the sources as they are: one before its proofs is refused. The search is in it where
 ./uvt build find has built that. It links nothing but the C library. The tools take Python from 3.10 on; without it `uvt debug`, `replay` and
 `live` are what they are with it, save that a bad line isn't explained. What was proved stands beside it, in share/doc/uvt/proof: the kit's
-line, and the SHA-256 of each source and of the program. `./uvt uninstall PREFIX`, or `uvt uninstall`, takes away what was installed (tools/package/uninstall.py).
+line, and the SHA-256 of each source and of the program. `./uvt uninstall PREFIX`, or `uvt uninstall`, takes away what was installed
+(tools/package/uninstall.py).
 """
 
 from __future__ import annotations
