@@ -240,6 +240,13 @@ def try_lines(check: Check, folder: str) -> None:
     check("find, no such file", ran.returncode == 70 and "No such file" in ran.stderr and "Traceback" not in ran.stderr, ran)
 
 
+def try_near_and_deep(check: Check) -> None:
+    """An answer of a few steps is found beside orders without an end, which a search that only goes deep follows. `tests/find/run --slow` says how
+    many steps are needed."""
+    ran = run([str(ROOT / "tests/find/endless/near.find"), "most states 1000"])
+    check("find, near, beside orders without an end", ran.returncode == FOUND and ran.stdout.startswith("found in 18 steps, "), ran)
+
+
 def try_interrupted(check: Check, folder: str) -> None:
     """A search that is interrupted says how far it was: here once it has shown at a terminal that it has passed a thousand states."""
     path = Path(folder, "endless")
@@ -448,4 +455,5 @@ def try_find(tries: Tries) -> None:
         for name, due in ANSWERS.items():
             try_example(tries.check, name, due, folder)
         try_lines(tries.check, folder)
+        try_near_and_deep(tries.check)
         try_interrupted(tries.check, folder)

@@ -1,16 +1,16 @@
 //! A search through all orders.
 ghost use Rattle.std.specs.Prelude.{◌≡◌, ◌+◌, ◌*◌, min, false};
-ghost use Rattle.uv_find.specs.Found.{AreRegular, Finds, KeysTell, EachFinishes};
+ghost use Rattle.uv_find.specs.Found.{AreRegular, Finds, IsMore, KeysTell, EachFinishes};
 ghost use Rattle.uv_find.specs.Questions.{place_answers};
 ghost use Rattle.uv_find.specs.Within.{NearIsWithin};
 
 use crate::orders::Orders;
 use std::alloc::Global;
 use uv_model::{Machine, STEPS};
-use uv_search::{Found, Reached, go_back, search, shortest};
+use uv_search::{Found, Reached, go_back, search, search_near, shortest};
 
-/// So many moves are made to make the steps that are found fewer, so many more for each place that was kept until then, and so many at most
-/// (own): an answer that came at once isn't kept waiting.
+/// So many moves are made by breadth where there are more places than may be kept. So many are made to make the steps that are found fewer, so
+/// many more for each place that was kept until then, and so many at most (own): an answer that came at once isn't kept waiting.
 const EFFORT: usize = 65_536;
 
 const EFFORT_EACH: usize = 1_024;
@@ -75,13 +75,26 @@ fn find_behind<M: Machine>(alloc: Global, orders: &mut Orders<M>, limit: usize) 
             }
         }
         Found::Never(places) => Answer::Never(places),
-        Found::Unsettled => Answer::Unsettled,
+        Found::Unsettled => find_near(alloc, orders, limit),
         Found::TooDeep => Answer::TooDeep,
         Found::OutOfMemory(places) => Answer::OutOfMemory(places),
     }
 }
 
-/// Searches in the same way, and leaves no step out of those that are found.
+/// Searches what is near, where there are more places than may be kept: the search goes deep first, and may pass by an answer of a few steps.
+fn find_near<M: Machine>(alloc: Global, orders: &mut Orders<M>, limit: usize) -> Answer
+    requires more { IsMore orders.old.rules orders.old.spot.place limit }
+    ensures found { Finds orders.old.rules orders.old.spot limit result orders.new.spot }
+    ensures rules { orders.new.rules ≡ orders.old.rules }
+{
+    match search_near(alloc, orders, limit, EFFORT) {
+        Ok(Some(reached)) => Answer::Found(reached.keys),
+        Ok(None) => Answer::Unsettled,
+        Err(_) => Answer::Unsettled,
+    }
+}
+
+/// Searches in the same way, but not what is near, and leaves no step out of those that are found.
 pub fn find_any<M: Machine>(alloc: Global, orders: &mut Orders<M>, limit: usize) -> Answer
     requires here { place_answers orders.old.rules orders.old.spot.place orders.old.rules.question ≡ false }
     ensures found { Finds orders.old.rules orders.old.spot limit result orders.new.spot }

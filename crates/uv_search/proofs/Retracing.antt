@@ -3,7 +3,8 @@ use Rattle.std.proofs.Common.{◌≡◌, ℕ, zero, suc, ◌+◌, ◌<◌, ◌�
 use Rattle.std.proofs.lemmas.List.{take_more}
 use Rattle.uv_search.specs.Ways.{LeadTo, LeadPast, IsMade, Tries}
 use Rattle.uv_search.specs.declared.shortening.Tried.TheVariants as tried
-use Rattle.uv_search.specs.Settled.{IsWay}
+use Rattle.uv_search.specs.Keys.{Has}
+use Rattle.uv_search.specs.Settled.{IsPassed, IsWay}
 
 module _ {X : Type 0} where
   -- one more is dropped
@@ -149,3 +150,28 @@ module _ {P : Type 0} (moves : P → ℕ) (next : P → ℕ → Option (P × Boo
         (subst (λ j. next m j ≡ Some (s, false)) one.1 goes) in
         let no : true ≡ false = (same_next a.place q s i true false a.answers went).1 in
         cc
+
+    -- one move more, away from a place whose key was seen
+    pub passed_more : (seen : List (List ℕ)) (a : P) (is : List ℕ) (q : P) (j : ℕ) → LeadTo moves next a is q
+        → IsPassed moves next key IsDeep seen a is → Has seen (key q) → IsPassed moves next key IsDeep seen a (is ++ j ∷ [])
+    passed_more seen a [] q j e passed has = (subst (λ x. Has seen (key x)) e has, λ m b goes. tt)
+    passed_more seen a (i ∷ is) q j (r, c, at, goes, rest) passed has = (
+      passed.0,
+      λ m b other.
+          let one : Some (r, c) ≡ Some (m, b) = sym goes ∙ other in
+          let pair : ◌≡◌ {A = P × Bool} (r, c) (m, b) = cc in
+          subst (λ x. IsPassed moves next key IsDeep seen x (is ++ j ∷ [])) (ap (λ x. x.0) pair)
+          (passed_more seen r is q j rest (passed.1 r c goes) has),
+    )
+
+    -- with more keys
+    pub passed_kept : (seen more : List (List ℕ)) → ((k : List ℕ) → Has seen k → Has more k) → (a : P) (is : List ℕ)
+        → IsPassed moves next key IsDeep seen a is → IsPassed moves next key IsDeep more a is
+    passed_kept seen more all a [] passed = tt
+    passed_kept seen more all a (i ∷ is) passed = (all (key a) passed.0, λ m b goes. passed_kept seen more all m is (passed.1 m b goes))
+
+    pub passed_further : (seen : List (List ℕ)) (a : P) (way : List ℕ) (n : ℕ) (q : P) → n < length way → LeadTo moves next a (take n way) q
+        → IsPassed moves next key IsDeep seen a (take n way) → Has seen (key q) → IsPassed moves next key IsDeep seen a (take (n + 1) way)
+    passed_further seen a way n q l led passed has =
+        subst (λ is. IsPassed moves next key IsDeep seen a is) (sym (take_more way n 0 l))
+        (passed_more seen a (take n way) q (get_or way n 0) led passed has)

@@ -64,10 +64,18 @@ returns-in-Never-clause-found g c =
     let f = rw c.in-Never.is at c.search.ensures.found in
     found_never c.args.orders.now.rules c.args.orders.now.spot c.args.limit c.in-Never.places c.search.new.maze.spot f.0 c.requires.here f.1
 
+-- there are more places than may be kept
+pub find_near-requires : goal.find_near-requires
+find_near-requires g c =
+    let f = rw c.in-Unsettled.is at c.search.ensures.found in
+    let back = rw c.in-Unsettled.is at c.search.ensures.made in
+    rw (c.search.ensures.rules, back.0)
+    record { more = found_more c.args.orders.now.rules c.args.orders.now.spot c.args.limit c.search.new.maze.spot f }
+
 pub returns-in-Unsettled-clause-found : goal.returns-in-Unsettled-clause-found
 returns-in-Unsettled-clause-found g c =
-    let f = rw c.in-Unsettled.is at c.search.ensures.found in
-    found_more c.args.orders.now.rules c.args.orders.now.spot c.args.limit c.search.new.maze.spot f
+    let back = rw c.in-Unsettled.is at c.search.ensures.made in
+    rw (c.search.ensures.rules, back.0) at c.find_near.ensures.found
 
 pub returns-in-TooDeep-clause-found : goal.returns-in-TooDeep-clause-found
 returns-in-TooDeep-clause-found g c =
