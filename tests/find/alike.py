@@ -11,12 +11,22 @@ from tests.find.loop import State
 Pair = Tuple[str, str]
 
 
+# The words before the lines of callbacks.
+KINDS = ["on", "after", "closed"]
+
+
+def does(asked: Asked, name: str) -> List[List[List[str]]]:
+    """What a name's callbacks of each kind do, line by line."""
+    lines = [line.split() for line in asked.script]
+    return [[words[2:] for words in lines if words[:2] == [kind, name]] for kind in KINDS]
+
+
 def speaks_of(asked: Asked) -> Set[str]:
-    """The names that a callback's line, an offer, a bound or the question names, and those whose callbacks have lines."""
-    named = {line.split()[1] for line in asked.script if line.split()[:1] in (["on"], ["after"], ["closed"])}
+    """The names that a callback's line, an offer, a bound or the question names."""
+    named: Set[str] = set()
     for line in asked.script:
         words = line.split()
-        if words[:1] in (["on"], ["after"], ["closed"]):
+        if words[:1] in ([kind] for kind in KINDS):
             named.update(words[2:])
     named.update(offer.argument for offer in asked.offers)
     named.update(asked.most)
@@ -29,7 +39,7 @@ def pairs(asked: Asked) -> Set[Pair]:
     if not holding.takes_at_once(asked) or asked.question == ("stuck",):
         return set()
     named = speaks_of(asked)
-    return {pair for pair in zip(asked.names, asked.names[1:]) if not named & set(pair)}
+    return {pair for pair in zip(asked.names, asked.names[1:]) if not named & set(pair) and does(asked, pair[0]) == does(asked, pair[1])}
 
 
 def jobs_of(state: State) -> Dict[str, Tuple[int, List[str]]]:

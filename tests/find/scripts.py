@@ -169,8 +169,20 @@ def script(draw: Random, is_of_pool: bool = False) -> str:
     return "\n".join(lines + ["begin"] + asked) + "\n"
 
 
+def shared_body(draw: Random, kinds: Dict[str, str], same: List[str]) -> List[str]:
+    """The lines of one callback, which all of these names have; seldom one of them has them not, or one more."""
+    body = ["%s%s" % (draw.choice(["", "", "", "@1 ", "@2 "]), op_of(draw, kinds)) for _ in range(draw.choice([1, 1, 2]))]
+    body = [line for line in body if "cancel " not in line]
+    lines = ["after %s %s" % (name, line) for name in same for line in body]
+    if lines and draw.random() < 0.15:
+        other = draw.choice(same)
+        lines = [line for line in lines if line.split()[1] != other] if draw.random() < 0.5 else lines + ["after %s alive" % other]
+    return lines
+
+
 def alike(draw: Random) -> str:
-    """The same of a pool: half of its requests, or more, are alike, so that their callbacks do nothing, and mostly nothing is asked of them."""
+    """The same of a pool: half of its requests, or more, are alike, so that their callbacks mostly do the same, or nothing, and mostly nothing is
+    asked of them."""
     same = ["p", "q", "r"][: draw.choice([2, 2, 3])]
     kinds = {name: draw.choice(["timer", "timer", "async", "request", "request", "idle"]) for name in ["a", "b"][: draw.choice([1, 1, 2])]}
     names = list(kinds)
@@ -187,6 +199,7 @@ def alike(draw: Random) -> str:
     lines = ["workers %d" % draw.choice([1, 2, 2, 3])] + ["order 1.44"] * (draw.random() < 0.15)
     lines += ["var " + name for name in names] + ["main " + line for line in main]
     lines += [line for line in bodies_of(draw, kinds) if " cancel " not in line or draw.random() < 0.1]
+    lines += shared_body(draw, kinds, same) if draw.random() < 0.6 else []
     asked = ["may send %s %d" % (name, draw.choice([1, 1, 2])) for name, kind in kinds.items() if kind == "async" and draw.random() < 0.8]
     asked += ["may tick %d 1" % draw.choice([1, 5, 7])] * (draw.random() < 0.3) + ["may wait"] * (draw.random() < 0.9)
     asked += ["most %s %d" % (name, draw.choice([1, 2])) for name, kind in kinds.items() if kind == "idle" or draw.random() < 0.4]

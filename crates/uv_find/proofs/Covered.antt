@@ -7,10 +7,8 @@ use Rattle.uv_ids.specs.declared.event.Event.TheVariants.{Finish}
 use Rattle.uv_ids.specs.declared.id.Id.{Id}
 use Rattle.uv_script.specs.Program.{worker_count}
 use Rattle.uv_records.specs.declared.named.Calls.{Calls}
-use Rattle.uv_work.specs.Tasks.{text_of}
 use Rattle.uv_work.specs.declared.request.Request.{Request}
 use Rattle.uv_work.specs.declared.task.Task.{Task}
-use Rattle.uv_work.proofs.TaskLemmas.{same_task}
 use Rattle.uv_model.specs.Queries.{run_by}
 use Rattle.uv_model.specs.State.{State, named, request}
 use Rattle.uv_order.specs.Reached.{IsReached}
@@ -35,6 +33,7 @@ use Rattle.uv_find.proofs.Mirroring.{mirror, mirror_led, CanMirror, Turns, Leads
 use Rattle.uv_find.proofs.Moving.{after_event, fewer, move_is}
 use Rattle.uv_find.proofs.Onward.{line_alike}
 use Rattle.uv_find.proofs.Ranking.{called}
+use Rattle.uv_find.proofs.Equal.{task_right}
 use Rattle.uv_find.proofs.Runners.{rank_named, rank_same, rank_slot}
 use Rattle.uv_find.proofs.Swap.{is_equal}
 use Rattle.uv_find.proofs.Twins.{AreTwins, twins_alike, at_x, turned_y}
@@ -260,11 +259,6 @@ calls_are x y e =
     let close = is_equal x.close y.close front.1 in
     λ i. record { handle = handle i; after = later i; close = close i }
 
-task_is : (x y : Task) → mates.same_task x y ≡ true → x ≡ y
-task_is x y e =
-    let parts = and_both (x.rounds == y.rounds) (pointwise nat_eq (text_of x) (text_of y)) e in
-    same_task x y (is_equal x.rounds y.rounds parts.0) (same_text (text_of x) (text_of y) (sym parts.1))
-
 -- what two workers run that are told to run requests that are alike
 record RunAlike (r : Rules) (s : State) (one two : Option ℕ) : Type 0 where
   first : ℕ
@@ -315,7 +309,7 @@ run_alike r s (Some first) (Some second) e = by (run_by s first) (run_by s secon
           holds_y = holds_y;
           name_x = refl;
           name_y = name_y;
-          task = task_is one.task two.task task.1;
+          task = task_right one.task two.task task.1;
           calls = calls_are (named s one.name).calls (named s two.name).calls calls.1
               ∙ ap (λ m. (named s (record { 0 = m })).calls) name_y;
           place = place.1;

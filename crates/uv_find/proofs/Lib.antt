@@ -19,6 +19,7 @@ pub mod Finishing
 pub mod Within
 mod Keys
 mod Scans
+pub mod Equal
 mod Swap
 mod Mirrored
 mod MainLines

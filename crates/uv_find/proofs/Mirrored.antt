@@ -107,24 +107,13 @@ module _ (a : ℕ) where
   abbrev moved_handle : HandleRecord → HandleRecord
   moved_handle h = record h { name = moved_var (swap a) h.name }
 
-  abbrev pub moved_request : Request → Request
-  moved_request r = record r { name = moved_var (swap a) r.name }
-
   handle_moved : (o : Option Content) → handle_in (option_map (moved_content (swap a)) o) ≡ option_map moved_handle (handle_in o)
   handle_moved None = refl
   handle_moved (Some (content.Handle h)) = refl
   handle_moved (Some (content.Request r)) = refl
 
-  request_moved : (o : Option Content) → request_in (option_map (moved_content (swap a)) o) ≡ option_map moved_request (request_in o)
-  request_moved None = refl
-  request_moved (Some (content.Handle h)) = refl
-  request_moved (Some (content.Request r)) = refl
-
   pub handle_mirrored : (s : State) (id : Id) → handle (mirrored a s) id ≡ option_map moved_handle (handle s id)
   handle_mirrored s id = ap handle_in (held_mirrored s id) ∙ handle_moved (held s.arena.slots id)
-
-  pub request_mirrored : (s : State) (id : Id) → request (mirrored a s) id ≡ option_map moved_request (request s id)
-  request_mirrored s id = ap request_in (held_mirrored s id) ∙ request_moved (held s.arena.slots id)
 
   was_handle : (o : Option HandleRecord) (h : HandleRecord) → option_map moved_handle o ≡ Some h
       → (g : HandleRecord) × (o ≡ Some g) × (moved_handle g ≡ h)

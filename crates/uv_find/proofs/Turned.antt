@@ -36,13 +36,13 @@ use Rattle.uv_asking.specs.declared.asking.Offered.{Offered}
 use Rattle.uv_find.specs.declared.kept.Kept.{Kept}
 use Rattle.uv_find.specs.declared.left.Left.{Left}
 use Rattle.uv_find.specs.Kept.{owes}
-use Rattle.uv_find.specs.Mates.{is_mute, offer_spares, main_spares}
-use Rattle.uv_find.specs.Holding.{is_empty}
+use Rattle.uv_find.specs.Mates.{offer_spares, main_spares}
 use Rattle.uv_find.specs.Ops.{is_beside, spares, of_main, of_lines, of_callbacks}
 use Rattle.uv_find.specs.Orders.{Rules, aim, is_made, is_free, spending, step_of, is_blocked, refused_as_blocked, deadline_at, deadline_in, wait_until, take_by, may_last, ends_within, is_in_poll, is_poll_stage, wait_for, is_quiet, is_behind_poll, is_closing, closes, event_of, timed, keeps_clock, is_brief, brief, offered_by, may_take}
 use Rattle.uv_find.specs.Ranks.{idle_worker, ranked}
 use Rattle.uv_find.specs.Spots.{AreMates}
 use Rattle.uv_find.proofs.Led.{each}
+use Rattle.uv_find.proofs.Equal.{callbacks_right}
 use Rattle.uv_find.proofs.Swap.{swap, is_equal, differs, swap_length, swap_order, other_stays, second_goes, first_goes}
 use Rattle.uv_find.proofs.Mirrored.{NamesChange, mirrored, mirrored_next, next_mirrored, held_mirrored, named_same}
 use Rattle.uv_find.proofs.Twins.{beside_stays, beside_var}
@@ -61,20 +61,6 @@ lines_same a (l ∷ ls) e =
 main_same : (a : ℕ) (m : MainOp) → of_main (spares a) m ≡ true → changed_main (by_names (swap a)) m ≡ m
 main_same a (main.Op o) e = ap main.Op (op_same a o e)
 main_same a (main.Run mode) e = refl
-
-empty_is : {X : Type 0} (xs : List X) → is_empty xs ≡ true → xs ≡ []
-empty_is [] e = refl
-empty_is (x ∷ xs) e = absurd (let f : false ≡ true = e in cc)
-
-mute_lines : (kind : Callback) (c : Callbacks) → is_mute c ≡ true → lines_of kind c ≡ []
-mute_lines kind c e = by kind where
-  parts : ((is_empty c.handle && is_empty c.after) ≡ true) × (is_empty c.close ≡ true)
-  parts = and_parts (is_empty c.handle && is_empty c.after) (is_empty c.close) e
-
-  by : (kind : Callback) → lines_of kind c ≡ []
-  by callback.Handle = empty_is c.handle (and_parts (is_empty c.handle) (is_empty c.after) parts.0).0
-  by callback.After = empty_is c.after (and_parts (is_empty c.handle) (is_empty c.after) parts.0).1
-  by callback.Close = empty_is c.close parts.1
 
 all_behind : {X : Type 0} (f : X → Bool) (xs : List X) (k : ℕ) (x : X) → list_all f (drop k xs) ≡ true → slice_get xs k ≡ Some x → f x ≡ true
 all_behind f [] zero x e at = absurd (none-some x at)
@@ -124,11 +110,9 @@ module _ (r : Rules) (a : ℕ) (mates : AreMates r a) where
     by callback.After = front.1
     by callback.Close = parts.1
 
-  mute_first : (kind : Callback) → lines_in r.program kind (record { 0 = a }) ≡ []
-  mute_first kind = mute_lines kind (callbacks_of r.program (record { 0 = a })) mates.mute
-
-  mute_second : (kind : Callback) → lines_in r.program kind (record { 0 = a + 1 }) ≡ []
-  mute_second kind = mute_lines kind (callbacks_of r.program (record { 0 = a + 1 })) mates.other
+  lines_agree : (kind : Callback) → lines_in r.program kind (record { 0 = a }) ≡ lines_in r.program kind (record { 0 = a + 1 })
+  lines_agree kind =
+      callbacks_right kind (callbacks_of r.program (record { 0 = a })) (callbacks_of r.program (record { 0 = a + 1 })) mates.same
 
   pub lines_moved : (kind : Callback) (v : Var) → lines_in r.program kind (moved_var (swap a) v) ≡ lines_in r.program kind v
   lines_moved kind v = by (v.0 == a) (v.0 == a + 1) refl refl where
@@ -140,12 +124,12 @@ module _ (r : Rules) (a : ℕ) (mates : AreMates r a) where
     by true c is other =
         let one : v.0 ≡ a = is_equal v.0 a is in
         ap (λ n. lines_in r.program kind (record { 0 = place_of (swap a) n })) one
-        ∙ ap (λ n. lines_in r.program kind (record { 0 = n })) (first_goes a) ∙ mute_second kind ∙ sym (mute_first kind)
+        ∙ ap (λ n. lines_in r.program kind (record { 0 = n })) (first_goes a) ∙ sym (lines_agree kind)
         ∙ ap (λ n. lines_in r.program kind (record { 0 = n })) (sym one)
     by false true is other =
         let one : v.0 ≡ a + 1 = is_equal v.0 (a + 1) other in
         ap (λ n. lines_in r.program kind (record { 0 = place_of (swap a) n })) one
-        ∙ ap (λ n. lines_in r.program kind (record { 0 = n })) (second_goes a) ∙ mute_first kind ∙ sym (mute_second kind)
+        ∙ ap (λ n. lines_in r.program kind (record { 0 = n })) (second_goes a) ∙ lines_agree kind
         ∙ ap (λ n. lines_in r.program kind (record { 0 = n })) (sym one)
     by false false is other =
         ap (λ n. lines_in r.program kind (record { 0 = n }))

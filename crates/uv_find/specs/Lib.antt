@@ -2,6 +2,7 @@
 pub mod Ops
 pub mod Forgetting
 pub mod Holding
+pub mod Same
 pub mod Mates
 pub mod Ranks
 pub mod Kept

@@ -23,16 +23,13 @@ use Rattle.uv_asking.specs.declared.asking.Offer.TheVariants.{Step}
 use Rattle.uv_asking.specs.declared.asking.Offered.{Offered}
 use Rattle.uv_asking.specs.declared.asking.Question.{Question}
 use Rattle.uv_asking.specs.declared.asking.Question.TheVariants as asks
-use Rattle.uv_find.specs.Holding.{is_empty, are_at_will, may_take_at_once}
+use Rattle.uv_find.specs.Holding.{are_at_will, may_take_at_once}
 use Rattle.uv_find.specs.Ops.{is_beside, spares, of_main, of_callbacks}
 use Rattle.uv_find.specs.Orders.{Rules, Place}
 use Rattle.uv_find.specs.Ranks.{runner}
+use Rattle.uv_find.specs.Same.{same_callbacks, same_task}
 
 -- ---- names of which nothing is said
-
--- its callbacks do nothing
-abbrev pub is_mute : Callbacks → Bool
-is_mute c = is_empty c.handle && is_empty c.after && is_empty c.close
 
 abbrev pub offer_spares : ℕ → Offer → Bool
 offer_spares a (Step (event.Cancel v)) = is_beside a (Some v)
@@ -57,10 +54,10 @@ question_spares a (asks.Late name ms) = false
 question_spares a asks.Stuck = false
 question_spares a question = true
 
--- this name and the next one are alike: their callbacks do nothing, and no callback, offer, bound or question speaks of them
+-- this name and the next one are alike: their callbacks do the same, and no callback, offer, bound or question speaks of them
 abbrev pub is_mate : Program → Asked → ℕ → Bool
 is_mate p asked a =
-    is_mute (callbacks_of p (record { 0 = a })) && is_mute (callbacks_of p (record { 0 = a + 1 }))
+    same_callbacks (callbacks_of p (record { 0 = a })) (callbacks_of p (record { 0 = a + 1 }))
     && list_all (of_callbacks (spares a)) p.callbacks && offers_spare a asked.offers && bounds_spare a asked.most && question_spares a asked.question
 
 -- of the first names, whether each is like the next one
@@ -92,9 +89,6 @@ body_spares a (Some body) = is_beside a (Some body.name)
 abbrev pub place_spares : ℕ → loop.Place → Bool
 place_spares a (Main line) = true
 place_spares a (Running run) = body_spares a run.body
-
-abbrev pub same_task : Task → Task → Bool
-same_task x y = (x.rounds == y.rounds) && pointwise nat_eq (text_of x) (text_of y)
 
 abbrev pub same_calls : Calls → Calls → Bool
 same_calls x y = (x.handle == y.handle) && (x.after == y.after) && (x.close == y.close)

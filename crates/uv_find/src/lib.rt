@@ -20,6 +20,7 @@ mod orders;
 mod questions;
 mod ranks;
 mod recorded;
+mod same;
 mod sources;
 mod steps;
 mod terms;

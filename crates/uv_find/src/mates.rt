@@ -8,7 +8,7 @@ ghost use Rattle.uv_model.specs.After.{after};
 ghost use Rattle.uv_model.specs.Bounds.{line_of};
 ghost use Rattle.uv_model.specs.State.{request};
 ghost use Rattle.uv_find.specs.Ops.{is_beside, spares};
-ghost use Rattle.uv_find.specs.Mates.{is_mute, offer_spares, offers_spare, bounds_spare, question_spares, is_mate, mates_of, some_mates, mates_in, has_mate, main_spares, place_spares, same_task, same_calls, are_alike, are_run_alike, run_of, request_of, later_rank};
+ghost use Rattle.uv_find.specs.Mates.{offer_spares, offers_spare, bounds_spare, question_spares, is_mate, mates_of, some_mates, mates_in, has_mate, main_spares, place_spares, same_calls, are_alike, are_run_alike, run_of, request_of, later_rank};
 ghost use Rattle.uv_find.specs.Holding.{may_take_at_once};
 ghost use Rattle.uv_find.specs.Ranks.{runner};
 ghost use Rattle.uv_find.specs.Spots.{rules_by};
@@ -16,14 +16,15 @@ ghost use Rattle.uv_find.specs.Spots.{rules_by};
 use crate::ops::{OpTest, holds_in_callbacks, holds_in_main_from};
 use crate::questions::op_name;
 use crate::ranks::runner;
+use crate::same::{same_callbacks, same_task};
 use crate::terms::Terms;
 use std::alloc::{AllocError, Global};
 use uv_asking::{Asking, Most, Offer, Offered, Question};
-use uv_ids::{Callback, Event, Id, Var};
+use uv_ids::{Event, Id, Var};
 use uv_model::{Machine, Place};
 use uv_records::Calls;
 use uv_script::{Op, Script};
-use uv_work::{Content, Request, Task};
+use uv_work::{Content, Request};
 
 /// Whether it is neither this name nor the next one.
 fn is_beside(first: u32, name: Option<Var>) -> bool
@@ -40,15 +41,6 @@ pub(crate) fn spares(first: u32, op: Op) -> bool
     ensures { result ≡ spares first op }
 {
     is_beside(first, op_name(op))
-}
-
-/// Whether a name's callbacks do nothing.
-fn is_mute(script: &Script, name: Var) -> bool
-    ensures { result ≡ is_mute (callbacks_of script.now name) }
-{
-    script.lines_in(Callback::Handle, name).is_empty()
-        && script.lines_in(Callback::After, name).is_empty()
-        && script.lines_in(Callback::Close, name).is_empty()
 }
 
 fn offer_spares(first: u32, offer: Offer) -> bool
@@ -96,15 +88,14 @@ fn question_spares(first: u32, question: Question) -> bool
     }
 }
 
-/// Whether a name and the next one are alike: their callbacks do nothing, and nothing else speaks of them.
+/// Whether a name and the next one are alike: their callbacks do the same, and nothing speaks of them.
 fn is_mate(script: &Script, asking: &Asking, names: usize, first: u32) -> bool
     requires whole { IsWhole script.now }
     requires names { names ≡ length script.now.names }
     requires within { first + 1 < names }
     ensures { result ≡ is_mate script.now (asked_in asking.now) first }
 {
-    is_mute(script, Var(first))
-        && is_mute(script, Var(first + 1))
+    same_callbacks(script, Var(first), Var(first + 1))
         && holds_in_callbacks(script, names, OpTest::Spares(first))
         && offers_spare(first, &asking.offers)
         && bounds_spare(first, &asking.most)
@@ -192,12 +183,6 @@ fn place_spares(place: Place, first: u32) -> bool
             Some(body) => is_beside(first, Some(body.name)),
         },
     }
-}
-
-fn same_task(one: Task, two: Task) -> bool
-    ensures { result ≡ same_task one two }
-{
-    one.rounds() == two.rounds() && one.text() == two.text()
 }
 
 fn same_calls(one: Calls, two: Calls) -> bool
