@@ -1,14 +1,14 @@
--- The lines behind `begin`: what may come from outside, how far the search goes, and what it looks for. Each form of a line is a row here, by its
--- fields in their order; a line says what the first row says that fits it.
-use Rattle.std.specs.Prelude.{ℕ, Bool, true, false, ◌==◌, ◌||◌, ◌&&◌, List, [], ◌∷◌, drop, nat_le, Option, Some, None, option_map, option_and_then, if◌then◌else◌, codes}
-use Rattle.std.specs.Option.{option_or}
-use Rattle.std.specs.Str.{bytes_eq}
+-- The lines behind `begin`: what may come from outside, how far the search goes, and what it looks for. A line has a form, by its fields in their
+-- order, and what it says is what fits that form.
+use Rattle.std.specs.Prelude.{◌≡◌, ◌≢◌, ℕ, ◌≤◌, Bool, true, false, ◌==◌, ◌⊎◌, List, [], ◌∷◌, Some, None, if◌then◌else◌, codes}
 use Rattle.uv_ids.specs.declared.id.Var.{Var}
+use Rattle.uv_ids.specs.declared.code.Code.{Code}
 use Rattle.uv_ids.specs.declared.event.Event.{Event}
 use Rattle.uv_ids.specs.declared.event.Event.TheVariants as event
-use Rattle.uv_ids.specs.Words.{code_named, phase_named}
-use Rattle.uv_script.specs.Lines.{fields_of}
-use Rattle.uv_script.specs.Checks.{is_line, is_skipped, number_of}
+use Rattle.uv_ids.specs.declared.phase.Phase.{Phase}
+use Rattle.uv_ids.specs.Words.{code_word, phase_word}
+use Rattle.uv_script.specs.Lines.{fields_of, IsLine, IsSkipped}
+use Rattle.uv_script.specs.Words.{IsNumber}
 use Rattle.uv_script.specs.Reading.{place_of}
 use Rattle.uv_asking.specs.declared.asking.Offer.{Offer}
 use Rattle.uv_asking.specs.declared.asking.Offer.TheVariants.{Step, SendDuring, Wait, WaitFor}
@@ -22,220 +22,218 @@ use Rattle.uv_asking.specs.declared.part.Said.{Said}
 use Rattle.uv_asking.specs.declared.part.Said.TheVariants.{Nothing, One, Bad}
 use Rattle.uv_asking.specs.Limits.{MOST_COUNT, MOST_MS, MOST_WORKER}
 
--- ---- fields, one after another
+infixl 30 ◌or◌
+-- ---- what fields are
 
--- what the first field is read as
-abbrev pub first_as : {A : Type 0} → (List ℕ → Option A) → List (List ℕ) → Option A
-first_as read [] = None
-first_as read (field ∷ rest) = read field
-
--- that, and what then is read of those behind it
-abbrev pub next : {A B : Type 0} → (List ℕ → Option A) → List (List ℕ) → (A → List (List ℕ) → Option B) → Option B
-next read fields more = option_and_then (λ x. more x (drop 1 fields)) (first_as read fields)
-
--- the same of the first two
-abbrev pub first_two : {A : Type 0} → (List ℕ → List ℕ → Option A) → List (List ℕ) → Option A
-first_two read fields = next Some fields (λ field more. first_as (read field) more)
-
-abbrev pub next_two : {A B : Type 0} → (List ℕ → List ℕ → Option A) → List (List ℕ) → (A → List (List ℕ) → Option B) → Option B
-next_two read fields more = option_and_then (λ x. more x (drop 1 (drop 1 fields))) (first_two read fields)
-
--- no field is left
-abbrev pub at_end : List (List ℕ) → Option (Unit {0})
-at_end [] = Some tt
-at_end (field ∷ rest) = None
-
-abbrev pub ends : {A : Type 0} → List (List ℕ) → A → Option A
-ends fields x = option_map (λ (end : Unit {0}). x) (at_end fields)
-
--- ---- what a field is
-
--- this word
-abbrev pub is_word : List ℕ → List ℕ → Option (Unit {0})
-is_word word field = if bytes_eq field word then Some tt else None
-
--- a number of this range
-abbrev pub if_within : ℕ → ℕ → ℕ → Option ℕ
-if_within low high n = if nat_le low n && nat_le n high then Some n else None
-
-abbrev pub number_in : ℕ → ℕ → List ℕ → Option ℕ
-number_in low high field = option_and_then (if_within low high) (number_of field)
+-- a number of this range, as it is written
+pub record IsWithin (low high : ℕ) (text : List ℕ) (n : ℕ) : Type 0 where
+  pub number : IsNumber text n
+  pub first : low ≤ n
+  pub last : n ≤ high
 
 -- the number of a call, `@K`
-abbrev pub call_in : List ℕ → Option ℕ
-call_in [] = None
-call_in (b ∷ bs) = if b == 64 then number_in 1 MOST_COUNT bs else None
+pub record IsNth (field : List ℕ) (k : ℕ) : Type 0 where
+  pub digits : List ℕ
+  pub marked : field ≡ 64 ∷ digits
+  pub within : IsWithin 1 MOST_COUNT digits k
 
--- the callbacks of a name
-abbrev pub which_named : List ℕ → Option Which
-which_named field =
-    if bytes_eq field (codes "call") then Some which.Any
-    else if bytes_eq field (codes "on") then Some which.Handle
-    else if bytes_eq field (codes "after") then Some which.After
-    else if bytes_eq field (codes "closed") then Some which.Close
-    else None
+-- a name that is declared, by its place
+abbrev pub IsVar : List (List ℕ) → List ℕ → Var → Type 0
+IsVar names field v = place_of names field ≡ Some v
 
--- a name that stands alone: not the word between two of them, also where a name is called so
-abbrev pub lone_name : List (List ℕ) → List ℕ → Option Var
-lone_name names field = if bytes_eq field (codes "before") || bytes_eq field (codes "after") then None else place_of names field
+-- the word for these callbacks of a name
+abbrev pub which_word : Which → List ℕ
+which_word which.Any = codes "call"
+which_word which.Handle = codes "on"
+which_word which.After = codes "after"
+which_word which.Close = codes "closed"
 
--- a name that is bounded: `clock` and `states` are the words here, also where a name is called so
-abbrev pub bounded_name : List (List ℕ) → List ℕ → Option Var
-bounded_name names field = if bytes_eq field (codes "clock") || bytes_eq field (codes "states") then None else place_of names field
+-- the two fields of an offer that is counted, where these names are declared
+pub data IsOffer (names : List (List ℕ)) (what argument : List ℕ) : Offer → Type 0 where
+  send : (v : Var) → what ≡ codes "send" → IsVar names argument v → IsOffer names what argument (Step (event.Send v))
+  cancel : (v : Var) → what ≡ codes "cancel" → IsVar names argument v → IsOffer names what argument (Step (event.Cancel v))
+  io : (v : Var) → what ≡ codes "io" → IsVar names argument v → IsOffer names what argument (Step (event.Io v))
+  tick : (ms : ℕ) → what ≡ codes "tick" → IsWithin 1 MOST_MS argument ms → IsOffer names what argument (Step (event.Tick ms))
+  wait : (ms : ℕ) → what ≡ codes "wait" → IsWithin 1 MOST_MS argument ms → IsOffer names what argument (WaitFor ms)
 
--- the two fields of an offer that is counted
-abbrev pub offer_of : List (List ℕ) → List ℕ → List ℕ → Option Offer
-offer_of names what argument =
-    if bytes_eq what (codes "send") then option_map (λ (v : Var). Step (event.Send v)) (place_of names argument)
-    else if bytes_eq what (codes "cancel") then option_map (λ (v : Var). Step (event.Cancel v)) (place_of names argument)
-    else if bytes_eq what (codes "io") then option_map (λ (v : Var). Step (event.Io v)) (place_of names argument)
-    else if bytes_eq what (codes "tick") then option_map (λ (ms : ℕ). Step (event.Tick ms)) (number_in 1 MOST_MS argument)
-    else if bytes_eq what (codes "wait") then option_map (λ (ms : ℕ). WaitFor ms) (number_in 1 MOST_MS argument)
-    else None
+-- the two fields of an event that came in a recording, and whether it is a wait
+pub data IsCame (names : List (List ℕ)) (what argument : List ℕ) : Event × Bool → Type 0 where
+  take : (n : ℕ) → what ≡ codes "take" → IsWithin 0 MOST_WORKER argument n → IsCame names what argument (event.Take n, false)
+  finish : (n : ℕ) → what ≡ codes "finish" → IsWithin 0 MOST_WORKER argument n → IsCame names what argument (event.Finish n, false)
+  outside : (e : Event) → IsOffer names what argument (Step e) → IsCame names what argument (e, false)
+  waited : (ms : ℕ) → IsOffer names what argument (WaitFor ms) → IsCame names what argument (event.Tick ms, true)
 
--- those of an event that came in a recording, and whether it is a wait
-abbrev pub came_by : Option Offer → Option (Event × Bool)
-came_by (Some (Step e)) = Some (e, false)
-came_by (Some (WaitFor ms)) = Some (event.Tick ms, true)
-came_by _ = None
+-- ---- forms of a line
 
-abbrev pub came_of : List (List ℕ) → List ℕ → List ℕ → Option (Event × Bool)
-came_of names what argument =
-    if bytes_eq what (codes "take") then option_map (λ (n : ℕ). (event.Take n, false)) (number_in 0 MOST_WORKER argument)
-    else if bytes_eq what (codes "finish") then option_map (λ (n : ℕ). (event.Finish n, false)) (number_in 0 MOST_WORKER argument)
-    else came_by (offer_of names what argument)
+-- what fields may be, one after another, and what is said by them
+pub data Form (A : Type 0) : Type 0 where
+  -- no field is left
+  says : A → Form A
+  -- this word, and then that
+  word : List ℕ → Form A → Form A
+  -- a name, and then that; or a name that is neither of two words
+  name : (Var → Form A) → Form A
+  name_but : List ℕ → List ℕ → (Var → Form A) → Form A
+  -- a number from the first to the second; the number of a call
+  number : ℕ → ℕ → (ℕ → Form A) → Form A
+  nth : (ℕ → Form A) → Form A
+  -- a code, a section, callbacks of a name
+  code : (Code → Form A) → Form A
+  section : (Phase → Form A) → Form A
+  callbacks : (Which → Form A) → Form A
+  -- two fields: an offer, or an event that came
+  offer : (Offer → Form A) → Form A
+  came : (Event × Bool → Form A) → Form A
+  -- the one, or where it doesn't fit the other
+  ◌or◌ : Form A → Form A → Form A
+  -- nothing fits
+  no_line : Form A
 
--- ---- the rows of `find`
+-- the first field is read as x, and those behind it fit what then comes
+abbrev pub First : {X : Type 0} → (List ℕ → X → Type 0) → (X → List (List ℕ) → Type 0) → List (List ℕ) → Type 0
+First Is Behind [] = ⊥
+First {X} Is Behind (field ∷ rest) = (x : X) × Is field x × Behind x rest
 
--- the fields behind `find`
-abbrev pub find : {A : Type 0} → List (List ℕ) → (List (List ℕ) → Option A) → Option A
-find fields more = next (is_word (codes "find")) fields (λ is rest. more rest)
+-- so the first two
+abbrev pub FirstTwo : {X : Type 0} → (List ℕ → List ℕ → X → Type 0) → (X → List (List ℕ) → Type 0) → List (List ℕ) → Type 0
+FirstTwo Is Behind [] = ⊥
+FirstTwo Is Behind (field ∷ rest) = First (Is field) Behind rest
 
-abbrev pub stuck : List (List ℕ) → Option Question
-stuck fields = find fields (λ more. next (is_word (codes "stuck")) more (λ is more. ends more question.Stuck))
+-- these fields fit the form, and say this, where these names are declared
+abbrev pub Fits : {A : Type 0} → List (List ℕ) → Form A → List (List ℕ) → A → Type 0
+Fits names (says x) fields said = (fields ≡ []) × (x ≡ said)
+Fits names (word text form) fields said = First (λ field (is : Unit {0}). field ≡ text) (λ is rest. Fits names form rest said) fields
+Fits names (name form) fields said = First (λ field v. IsVar names field v) (λ v rest. Fits names (form v) rest said) fields
+Fits names (name_but this that form) fields said =
+    First (λ field v. (field ≢ this) × (field ≢ that) × IsVar names field v) (λ v rest. Fits names (form v) rest said) fields
+Fits names (number low high form) fields said = First (λ field n. IsWithin low high field n) (λ n rest. Fits names (form n) rest said) fields
+Fits names (nth form) fields said = First (λ field k. IsNth field k) (λ k rest. Fits names (form k) rest said) fields
+Fits names (code form) fields said = First (λ field c. field ≡ code_word c) (λ c rest. Fits names (form c) rest said) fields
+Fits names (section form) fields said = First (λ field x. field ≡ phase_word x) (λ x rest. Fits names (form x) rest said) fields
+Fits names (callbacks form) fields said = First (λ field w. field ≡ which_word w) (λ w rest. Fits names (form w) rest said) fields
+Fits names (offer form) fields said =
+    FirstTwo (λ what argument o. IsOffer names what argument o) (λ o rest. Fits names (form o) rest said) fields
+Fits names (came form) fields said =
+    FirstTwo (λ what argument e. IsCame names what argument e) (λ e rest. Fits names (form e) rest said) fields
+Fits {A} names (form or other) fields said =
+    Fits names form fields said ⊎ (((x : A) → Fits names form fields x → ⊥) × Fits names other fields said)
+Fits names no_line fields said = ⊥
 
-abbrev pub code : List (List ℕ) → Option Question
-code fields = find fields (λ more. next (is_word (codes "code")) more (λ is more. next code_named more (λ c more. ends more (question.Code c None))))
+-- ---- what may come
+
+-- `may OFFER N`
+abbrev pub may : Form Part
+may = word (codes "may") (offer (λ o. number 1 MOST_COUNT (λ n. says (Offers (record { offer = o; times = Some n })))))
+
+-- `may send NAME N during JOB`, and not one name twice
+abbrev pub may_during : Form Part
+may_during = word (codes "may") (word (codes "send") (name (λ v. number 1 MOST_COUNT (λ n. word (codes "during") (name (λ w.
+    if v.0 == w.0 then no_line else says (Offers (record { offer = SendDuring v w; times = Some n }))))))))
+
+abbrev pub may_wait : Form Part
+may_wait = word (codes "may") (word (codes "wait") (says (Offers (record { offer = Wait; times = None }))))
+
+abbrev pub may_differ : Form Part
+may_differ = word (codes "may") (word (codes "differ") (number 0 MOST_COUNT (λ k. says (Differ k))))
+
+-- `recorded POLLS STEPS EVENT`
+abbrev pub recorded : Form Part
+recorded = word (codes "recorded") (number 0 MOST_COUNT (λ m. number 0 MOST_COUNT (λ n. came (λ e.
+    says (Recorded (record { event = e.0; waits = e.1; polls = m; steps = n }))))))
+
+abbrev pub offers : Form Part
+offers = may or may_during or may_wait or may_differ or recorded
+
+-- ---- how long callbacks take, and how far the search goes
+
+-- `takes NAME MS`
+abbrev pub takes : Form Part
+takes = word (codes "takes") (name (λ v. number 0 MOST_MS (λ ms. says (Takes (record { name = v; call = None; ms = ms })))))
+
+-- `takes NAME @K MS`
+abbrev pub takes_once : Form Part
+takes_once = word (codes "takes") (name (λ v. nth (λ k. number 0 MOST_MS (λ ms. says (Takes (record { name = v; call = Some k; ms = ms }))))))
+
+abbrev pub most_clock : Form Part
+most_clock = word (codes "most") (word (codes "clock") (number 0 MOST_MS (λ ms. says (Clock ms))))
+
+abbrev pub most_states : Form Part
+most_states = word (codes "most") (word (codes "states") (number 1 MOST_COUNT (λ n. says (States n))))
+
+-- `most NAME CALLS`: `clock` and `states` are the words here, also where a name is called so
+abbrev pub most_calls : Form Part
+most_calls =
+    word (codes "most") (name_but (codes "clock") (codes "states") (λ v. number 0 MOST_COUNT (λ n. says (Calls (record { name = v; calls = n })))))
+
+abbrev pub full : Form Part
+full = word (codes "full") (says Full)
+
+abbrev pub bounds : Form Part
+bounds = takes or takes_once or most_clock or most_states or most_calls or full
+
+-- ---- what is looked for
+
+abbrev pub latest : Form Part
+latest = word (codes "find") (word (codes "latest") (name (λ v. says (Latest v))))
+
+abbrev pub asks : Question → Form Part
+asks q = says (Finds q)
+
+abbrev pub stuck : Form Part
+stuck = word (codes "find") (word (codes "stuck") (asks question.Stuck))
+
+abbrev pub code_alone : Form Part
+code_alone = word (codes "find") (word (codes "code") (code (λ c. asks (question.Code c None))))
+
+abbrev pub code_of : Form Part
+code_of = word (codes "find") (word (codes "code") (code (λ c. word (codes "of") (name (λ v. asks (question.Code c (Some v)))))))
 
 -- the poll is a section here
-abbrev pub poll : List (List ℕ) → Option Question
-poll fields = find fields (λ more. next (is_word (codes "section")) more (λ is more. next (is_word (codes "poll")) more
-    (λ is more. ends more question.Poll)))
+abbrev pub poll : Form Part
+poll = word (codes "find") (word (codes "section") (word (codes "poll") (asks question.Poll)))
 
-abbrev pub section : List (List ℕ) → Option Question
-section fields = find fields (λ more. next (is_word (codes "section")) more (λ is more. next phase_named more
-    (λ x more. ends more (question.Section x))))
+abbrev pub section_begins : Form Part
+section_begins = word (codes "find") (word (codes "section") (section (λ x. asks (question.Section x))))
 
-module _ (names fields : List (List ℕ)) where
-  -- `call NAME`, and so `on`, `after`, `closed`
-  abbrev pub call : Option Question
-  call = find fields (λ more. next which_named more (λ w more. next (place_of names) more (λ v more. ends more (question.Call w v None))))
+-- `call NAME`, and so `on`, `after`, `closed`
+abbrev pub call : Form Part
+call = word (codes "find") (callbacks (λ w. name (λ v. asks (question.Call w v None))))
 
-  abbrev pub nth_call : Option Question
-  nth_call = find fields (λ more. next which_named more (λ w more. next (lone_name names) more (λ v more. next (number_in 1 MOST_COUNT) more
-      (λ n more. ends more (question.Call w v (Some n))))))
+-- `before` and `after` are the words between two names here, also where a name is called so
+abbrev pub nth_call : Form Part
+nth_call = word (codes "find") (callbacks (λ w. name_but (codes "before") (codes "after") (λ v. number 1 MOST_COUNT (λ n.
+    asks (question.Call w v (Some n))))))
 
-  abbrev pub late : Option Question
-  late = find fields (λ more. next (is_word (codes "late")) more (λ is more. next (lone_name names) more (λ v more. next (number_in 0 MOST_MS) more
-      (λ ms more. ends more (question.Late v ms)))))
+abbrev pub late : Form Part
+late = word (codes "find") (word (codes "late") (name_but (codes "before") (codes "after") (λ v. number 0 MOST_MS (λ ms.
+    asks (question.Late v ms)))))
 
-  abbrev pub code_of : Option Question
-  code_of = find fields (λ more. next (is_word (codes "code")) more (λ is more. next code_named more (λ c more. next (is_word (codes "of")) more
-      (λ is more. next (place_of names) more (λ v more. ends more (question.Code c (Some v)))))))
+abbrev pub never : Form Part
+never = word (codes "find") (word (codes "never") (name (λ v. asks (question.Never v))))
 
-  abbrev pub never : Option Question
-  never = find fields (λ more. next (is_word (codes "never")) more (λ is more. next (place_of names) more
-      (λ v more. ends more (question.Never v))))
+-- two names with a word between them, and not one name twice
+abbrev pub pair : List ℕ → (Var → Var → Question) → Form Part
+pair between q = word (codes "find") (name (λ v. word between (name (λ w. if v.0 == w.0 then no_line else asks (q v w)))))
 
-  -- two names with a word between them, and not one twice
-  abbrev pub pair : List ℕ → Option (Var × Var)
-  pair word = find fields (λ more. next (place_of names) more (λ v more. next (is_word word) more (λ is more. next (place_of names) more
-      (λ w more. if v.0 == w.0 then None else ends more (v, w)))))
+abbrev pub before : Form Part
+before = pair (codes "before") question.Before
 
-  abbrev pub before : Option Question
-  before = option_map (λ (t : Var × Var). question.Before t.0 t.1) (pair (codes "before"))
+abbrev pub behind : Form Part
+behind = pair (codes "after") question.Behind
 
-  abbrev pub behind : Option Question
-  behind = option_map (λ (t : Var × Var). question.Behind t.0 t.1) (pair (codes "after"))
+abbrev pub questions : Form Part
+questions = stuck or code_alone or poll or section_begins or code_of
 
-  abbrev pub words : Option Question
-  words = option_or (option_or (option_or (option_or (stuck fields) (code fields)) (poll fields)) (section fields)) code_of
+abbrev pub calls : Form Part
+calls = call or nth_call or late or never or before or behind
 
-  abbrev pub callbacks : Option Question
-  callbacks = option_or (option_or (option_or (option_or (option_or call nth_call) late) never) before) behind
+-- ---- any line
 
-  abbrev pub question_of : Option Question
-  question_of = option_or words callbacks
+abbrev pub part : Form Part
+part = offers or bounds or latest or questions or calls
 
--- ---- the rows of a line
-
-abbrev pub may_wait : List (List ℕ) → Option Part
-may_wait fields = next (is_word (codes "may")) fields (λ is more. next (is_word (codes "wait")) more
-    (λ is more. ends more (Offers (record { offer = Wait; times = None }))))
-
-abbrev pub may_differ : List (List ℕ) → Option Part
-may_differ fields = next (is_word (codes "may")) fields (λ is more. next (is_word (codes "differ")) more
-    (λ is more. next (number_in 0 MOST_COUNT) more (λ k more. ends more (Differ k))))
-
-abbrev pub most_clock : List (List ℕ) → Option Part
-most_clock fields = next (is_word (codes "most")) fields (λ is more. next (is_word (codes "clock")) more
-    (λ is more. next (number_in 0 MOST_MS) more (λ ms more. ends more (Clock ms))))
-
-abbrev pub most_states : List (List ℕ) → Option Part
-most_states fields = next (is_word (codes "most")) fields (λ is more. next (is_word (codes "states")) more
-    (λ is more. next (number_in 1 MOST_COUNT) more (λ n more. ends more (States n))))
-
-abbrev pub full : List (List ℕ) → Option Part
-full fields = next (is_word (codes "full")) fields (λ is more. ends more Full)
-
-module _ (names fields : List (List ℕ)) where
-  -- `may OFFER N`
-  abbrev pub may : Option Part
-  may = next (is_word (codes "may")) fields (λ is more. next_two (offer_of names) more (λ o more. next (number_in 1 MOST_COUNT) more
-      (λ n more. ends more (Offers (record { offer = o; times = Some n })))))
-
-  -- `may send NAME N during JOB`
-  abbrev pub may_during : Option Part
-  may_during = next (is_word (codes "may")) fields (λ is more. next (is_word (codes "send")) more (λ is more. next (place_of names) more
-      (λ v more. next (number_in 1 MOST_COUNT) more (λ n more. next (is_word (codes "during")) more (λ is more. next (place_of names) more
-      (λ w more. if v.0 == w.0 then None else ends more (Offers (record { offer = SendDuring v w; times = Some n }))))))))
-
-  -- `recorded POLLS STEPS EVENT`
-  abbrev pub recorded : Option Part
-  recorded = next (is_word (codes "recorded")) fields (λ is more. next (number_in 0 MOST_COUNT) more (λ m more. next (number_in 0 MOST_COUNT) more
-      (λ n more. next_two (came_of names) more
-      (λ came more. ends more (Recorded (record { event = came.0; waits = came.1; polls = m; steps = n }))))))
-
-  -- `takes NAME MS`, and `takes NAME @K MS`
-  abbrev pub takes : Option Part
-  takes = next (is_word (codes "takes")) fields (λ is more. next (place_of names) more (λ v more. next (number_in 0 MOST_MS) more
-      (λ ms more. ends more (Takes (record { name = v; call = None; ms = ms })))))
-
-  abbrev pub takes_once : Option Part
-  takes_once = next (is_word (codes "takes")) fields (λ is more. next (place_of names) more (λ v more. next call_in more
-      (λ k more. next (number_in 0 MOST_MS) more (λ ms more. ends more (Takes (record { name = v; call = Some k; ms = ms }))))))
-
-  abbrev pub most_calls : Option Part
-  most_calls = next (is_word (codes "most")) fields (λ is more. next (bounded_name names) more (λ v more. next (number_in 0 MOST_COUNT) more
-      (λ n more. ends more (Calls (record { name = v; calls = n })))))
-
-  abbrev pub latest : Option Part
-  latest = find fields (λ more. next (is_word (codes "latest")) more (λ is more. next (place_of names) more (λ v more. ends more (Latest v))))
-
-  abbrev pub offers : Option Part
-  offers = option_or (option_or (option_or (option_or may may_during) (may_wait fields)) (may_differ fields)) recorded
-
-  abbrev pub bounds : Option Part
-  bounds = option_or (option_or (option_or (option_or (option_or takes takes_once) (most_clock fields)) (most_states fields)) most_calls)
-      (full fields)
-
-  abbrev pub part_of : Option Part
-  part_of = option_or (option_or (option_or offers bounds) latest) (option_map Finds (question_of names fields))
-
-abbrev pub said_by : Option Part → Said
-said_by (Some part) = One part
-said_by None = Bad
-
--- how a line is read, where these names are declared: empty lines and comments say nothing, and what no row fits is bad
-abbrev pub said_of : List (List ℕ) → List ℕ → Said
-said_of names line = if is_line line then (if is_skipped line then Nothing else said_by (part_of names (fields_of line))) else Bad
+-- how a line is read, where these names are declared: empty lines and comments say nothing, and what fits no form is bad
+pub data Says (names : List (List ℕ)) (line : List ℕ) : Said → Type 0 where
+  nothing : IsLine line → IsSkipped line → Says names line Nothing
+  one : (said : Part) → IsLine line → Fits names part (fields_of line) said → Says names line (One said)
+  bad : (IsLine line → IsSkipped line → ⊥) → (IsLine line → (said : Part) → Fits names part (fields_of line) said → ⊥) → Says names line Bad

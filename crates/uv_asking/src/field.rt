@@ -1,11 +1,11 @@
 //! The fields of a line, one after another.
 ghost use Rattle.std.specs.Prelude.{◌≡◌, drop};
 ghost use Rattle.uv_ids.specs.Words.{code_named, phase_named};
-ghost use Rattle.uv_script.specs.Reading.{place_of};
-ghost use Rattle.uv_asking.specs.Grammar.{first_as, first_two, at_end, is_word, number_in, call_in, lone_name, bounded_name, which_named, offer_of, came_of};
+ghost use Rattle.uv_script.specs.Reading.{none_left, place_of};
+ghost use Rattle.uv_asking.specs.Tests.{first_as, first_two, is_word, number_in, call_in, name_but_of, which_named, offer_of, came_of};
 
 use crate::asking::{Offer, Which};
-use crate::words::{bounded_name, call_in, came, count_from, lone_name, number_in, offer, which};
+use crate::words::{call_in, came, count_from, name_but_of, number_in, offer, which};
 use uv_ids::{Code, Event, Phase, Var, is};
 use uv_script::{Fields, Names};
 
@@ -27,22 +27,18 @@ pub(crate) fn name(names: &Names, fields: &mut Fields<'_>) -> Option<Var>
     names.number(field)
 }
 
-/// The next field, where it is a name and no word between two names.
-pub(crate) fn lone(names: &Names, fields: &mut Fields<'_>) -> Option<Var>
-    ensures is { result ≡ first_as (lone_name names.now) fields.old }
+/// The next field, where it is a name that is neither of two words.
+pub(crate) fn name_but(
+    names: &Names,
+    this: &[u8],
+    that: &[u8],
+    fields: &mut Fields<'_>,
+) -> Option<Var>
+    ensures is { result ≡ first_as (name_but_of names.now this.now that.now) fields.old }
     ensures rest { fields.new ≡ drop 1 fields.old }
 {
     let field = fields.next()?;
-    lone_name(names, field)
-}
-
-/// The next field, where it is a name that may be bounded.
-pub(crate) fn bounded(names: &Names, fields: &mut Fields<'_>) -> Option<Var>
-    ensures is { result ≡ first_as (bounded_name names.now) fields.old }
-    ensures rest { fields.new ≡ drop 1 fields.old }
-{
-    let field = fields.next()?;
-    bounded_name(names, field)
+    name_but_of(names, this, that, field)
 }
 
 /// The next field, where it is a count from this one on.
@@ -121,7 +117,7 @@ pub(crate) fn section(fields: &mut Fields<'_>) -> Option<Phase>
 
 /// No field is left.
 pub(crate) fn end(mut fields: Fields<'_>) -> Option<()>
-    ensures { result ≡ at_end fields.entry }
+    ensures { result ≡ none_left fields.entry }
 {
     match fields.next() {
         None => Some(()),

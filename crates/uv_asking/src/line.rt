@@ -1,19 +1,23 @@
-//! The rows of the lines behind `begin`. Each reads the fields of its line from the first one on; the first row that fits says what the line says.
-ghost use Rattle.std.specs.Prelude.{◌≡◌, ℕ, List, option_map};
-ghost use Rattle.uv_asking.specs.declared.part.Part.TheVariants.{Finds};
+//! The forms of the lines behind `begin`. Each function reads the fields of its form from the first one on.
+ghost use Rattle.std.specs.Prelude.{◌≡◌, ℕ, List};
 ghost use Rattle.uv_script.specs.Lines.{fields_of};
+ghost use Rattle.uv_asking.specs.declared.part.Said.{Said};
 ghost use Rattle.uv_asking.specs.Grammar as is;
+ghost use Rattle.uv_asking.specs.Grammar.{Says};
+ghost use Rattle.uv_asking.specs.Tests.{reads, said_of};
 
 use crate::asking::{Most, Offer, Offered, Recorded, Takes};
-use crate::field::{bounded, came_next, count, end, name, nth, number, offered, word};
+use crate::field::{came_next, count, end, name, name_but, nth, number, offered, word};
 use crate::part::{Part, Said};
-use crate::question::question;
+use crate::question::{calls, questions};
 use crate::words::MOST_MS;
 use uv_script::{Fields, Names, is_line, is_skipped};
 
 /// Reads a line, without its line feed, where these names are declared.
+#[tactic(auto, using(crate::proofs::Agreement::reading))]
 pub fn read_part(names: &Names, line: &[u8]) -> Said
-    ensures { result ≡ is.said_of names.now line.now }
+    ensures rule { Says names.now line.now result }
+    ensures test { result ≡ said_of names.now line.now }
 {
     if !is_line(line) {
         return Said::Bad;
@@ -28,18 +32,19 @@ pub fn read_part(names: &Names, line: &[u8]) -> Said
 }
 
 fn part(names: &Names, line: &[u8]) -> Option<Part>
-    ensures { result ≡ is.part_of names.now (fields_of line.now) }
+    ensures { result ≡ reads names.now is.part (fields_of line.now) }
 {
     offers(names, line)
         .or(bounds(names, line))
         .or(latest(names, Fields::of(line)))
-        .or(found(names, line))
+        .or(questions(names, line))
+        .or(calls(names, line))
 }
 
 // ---- what may come
 
 fn offers(names: &Names, line: &[u8]) -> Option<Part>
-    ensures { result ≡ is.offers names.now (fields_of line.now) }
+    ensures { result ≡ reads names.now is.offers (fields_of line.now) }
 {
     may(names, Fields::of(line))
         .or(may_during(names, Fields::of(line)))
@@ -49,7 +54,7 @@ fn offers(names: &Names, line: &[u8]) -> Option<Part>
 }
 
 fn may(names: &Names, mut fields: Fields<'_>) -> Option<Part>
-    ensures { result ≡ is.may names.now fields.entry }
+    ensures { result ≡ reads names.now is.may fields.entry }
 {
     word(b"may", &mut fields)?;
     let offer = offered(names, &mut fields)?;
@@ -62,7 +67,7 @@ fn may(names: &Names, mut fields: Fields<'_>) -> Option<Part>
 }
 
 fn may_during(names: &Names, mut fields: Fields<'_>) -> Option<Part>
-    ensures { result ≡ is.may_during names.now fields.entry }
+    ensures { result ≡ reads names.now is.may_during fields.entry }
 {
     word(b"may", &mut fields)?;
     word(b"send", &mut fields)?;
@@ -79,7 +84,7 @@ fn may_during(names: &Names, mut fields: Fields<'_>) -> Option<Part>
 }
 
 fn may_wait(mut fields: Fields<'_>) -> Option<Part>
-    ensures { result ≡ is.may_wait fields.entry }
+    ensures { (names : List (List ℕ)) → result ≡ reads names is.may_wait fields.entry }
 {
     word(b"may", &mut fields)?;
     word(b"wait", &mut fields)?;
@@ -91,7 +96,7 @@ fn may_wait(mut fields: Fields<'_>) -> Option<Part>
 }
 
 fn may_differ(mut fields: Fields<'_>) -> Option<Part>
-    ensures { result ≡ is.may_differ fields.entry }
+    ensures { (names : List (List ℕ)) → result ≡ reads names is.may_differ fields.entry }
 {
     word(b"may", &mut fields)?;
     word(b"differ", &mut fields)?;
@@ -101,7 +106,7 @@ fn may_differ(mut fields: Fields<'_>) -> Option<Part>
 }
 
 fn recorded(names: &Names, mut fields: Fields<'_>) -> Option<Part>
-    ensures { result ≡ is.recorded names.now fields.entry }
+    ensures { result ≡ reads names.now is.recorded fields.entry }
 {
     word(b"recorded", &mut fields)?;
     let polls = count(0, &mut fields)?;
@@ -119,7 +124,7 @@ fn recorded(names: &Names, mut fields: Fields<'_>) -> Option<Part>
 // ---- how long callbacks take, and how far the search goes
 
 fn bounds(names: &Names, line: &[u8]) -> Option<Part>
-    ensures { result ≡ is.bounds names.now (fields_of line.now) }
+    ensures { result ≡ reads names.now is.bounds (fields_of line.now) }
 {
     takes(names, Fields::of(line))
         .or(takes_once(names, Fields::of(line)))
@@ -130,7 +135,7 @@ fn bounds(names: &Names, line: &[u8]) -> Option<Part>
 }
 
 fn takes(names: &Names, mut fields: Fields<'_>) -> Option<Part>
-    ensures { result ≡ is.takes names.now fields.entry }
+    ensures { result ≡ reads names.now is.takes fields.entry }
 {
     word(b"takes", &mut fields)?;
     let name = name(names, &mut fields)?;
@@ -141,7 +146,7 @@ fn takes(names: &Names, mut fields: Fields<'_>) -> Option<Part>
 }
 
 fn takes_once(names: &Names, mut fields: Fields<'_>) -> Option<Part>
-    ensures { result ≡ is.takes_once names.now fields.entry }
+    ensures { result ≡ reads names.now is.takes_once fields.entry }
 {
     word(b"takes", &mut fields)?;
     let name = name(names, &mut fields)?;
@@ -152,7 +157,7 @@ fn takes_once(names: &Names, mut fields: Fields<'_>) -> Option<Part>
 }
 
 fn most_clock(mut fields: Fields<'_>) -> Option<Part>
-    ensures { result ≡ is.most_clock fields.entry }
+    ensures { (names : List (List ℕ)) → result ≡ reads names is.most_clock fields.entry }
 {
     word(b"most", &mut fields)?;
     word(b"clock", &mut fields)?;
@@ -162,7 +167,7 @@ fn most_clock(mut fields: Fields<'_>) -> Option<Part>
 }
 
 fn most_states(mut fields: Fields<'_>) -> Option<Part>
-    ensures { result ≡ is.most_states fields.entry }
+    ensures { (names : List (List ℕ)) → result ≡ reads names is.most_states fields.entry }
 {
     word(b"most", &mut fields)?;
     word(b"states", &mut fields)?;
@@ -172,17 +177,17 @@ fn most_states(mut fields: Fields<'_>) -> Option<Part>
 }
 
 fn most_calls(names: &Names, mut fields: Fields<'_>) -> Option<Part>
-    ensures { result ≡ is.most_calls names.now fields.entry }
+    ensures { result ≡ reads names.now is.most_calls fields.entry }
 {
     word(b"most", &mut fields)?;
-    let name = bounded(names, &mut fields)?;
+    let name = name_but(names, b"clock", b"states", &mut fields)?;
     let calls = count(0, &mut fields)?;
     end(fields)?;
     Some(Part::Calls(Most { name, calls }))
 }
 
 fn full(mut fields: Fields<'_>) -> Option<Part>
-    ensures { result ≡ is.full fields.entry }
+    ensures { (names : List (List ℕ)) → result ≡ reads names is.full fields.entry }
 {
     word(b"full", &mut fields)?;
     end(fields)?;
@@ -192,7 +197,7 @@ fn full(mut fields: Fields<'_>) -> Option<Part>
 // ---- what is looked for
 
 fn latest(names: &Names, mut fields: Fields<'_>) -> Option<Part>
-    ensures { result ≡ is.latest names.now fields.entry }
+    ensures { result ≡ reads names.now is.latest fields.entry }
 {
     word(b"find", &mut fields)?;
     word(b"latest", &mut fields)?;
@@ -201,9 +206,9 @@ fn latest(names: &Names, mut fields: Fields<'_>) -> Option<Part>
     Some(Part::Latest(name))
 }
 
-fn found(names: &Names, line: &[u8]) -> Option<Part>
-    ensures { result ≡ option_map Finds (is.question_of names.now (fields_of line.now)) }
-{
-    let question = question(names, line)?;
-    Some(Part::Finds(question))
-}
+/// Every line is read in some way, and in one alone.
+#[tactic(auto, using(crate::proofs::Agreement::reading))]
+pub fn every_line_says()
+    ensures some { (names : List (List ℕ)) (line : List ℕ) → Says names line (said_of names line) }
+    ensures one { (names : List (List ℕ)) (line : List ℕ) (a b : Said) → Says names line a → Says names line b → a ≡ b }
+{}

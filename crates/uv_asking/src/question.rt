@@ -1,67 +1,71 @@
-//! The rows of `find`: what may stand behind it. Each reads its fields from the first one on.
-ghost use Rattle.std.specs.Prelude.{◌≡◌, ℕ, List};
+//! The forms of `find`: what may stand behind it. Each function reads the fields of its form from the first one on.
+ghost use Rattle.std.specs.Prelude.{◌≡◌, ℕ, List, option_map};
+ghost use Rattle.uv_ids.specs.declared.id.Var.{Var};
 ghost use Rattle.uv_script.specs.Lines.{fields_of};
+ghost use Rattle.uv_asking.specs.declared.part.Part.TheVariants.{Finds};
 ghost use Rattle.uv_asking.specs.Grammar as is;
+ghost use Rattle.uv_asking.specs.Tests.{reads};
 
 use crate::asking::Question;
-use crate::field::{callbacks, code, count, end, lone, name, number, section, word};
+use crate::field::{callbacks, code, count, end, name, name_but, number, section, word};
+use crate::part::Part;
 use crate::words::MOST_MS;
 use uv_ids::Var;
 use uv_script::{Fields, Names};
 
-fn stuck(mut fields: Fields<'_>) -> Option<Question>
-    ensures { result ≡ is.stuck fields.entry }
+fn stuck(mut fields: Fields<'_>) -> Option<Part>
+    ensures { (names : List (List ℕ)) → result ≡ reads names is.stuck fields.entry }
 {
     word(b"find", &mut fields)?;
     word(b"stuck", &mut fields)?;
     end(fields)?;
-    Some(Question::Stuck)
+    Some(Part::Finds(Question::Stuck))
 }
 
-fn call(names: &Names, mut fields: Fields<'_>) -> Option<Question>
-    ensures { result ≡ is.call names.now fields.entry }
+fn call(names: &Names, mut fields: Fields<'_>) -> Option<Part>
+    ensures { result ≡ reads names.now is.call fields.entry }
 {
     word(b"find", &mut fields)?;
     let which = callbacks(&mut fields)?;
     let name = name(names, &mut fields)?;
     end(fields)?;
-    Some(Question::Call(which, name, None))
+    Some(Part::Finds(Question::Call(which, name, None)))
 }
 
-fn nth_call(names: &Names, mut fields: Fields<'_>) -> Option<Question>
-    ensures { result ≡ is.nth_call names.now fields.entry }
+fn nth_call(names: &Names, mut fields: Fields<'_>) -> Option<Part>
+    ensures { result ≡ reads names.now is.nth_call fields.entry }
 {
     word(b"find", &mut fields)?;
     let which = callbacks(&mut fields)?;
-    let name = lone(names, &mut fields)?;
+    let name = name_but(names, b"before", b"after", &mut fields)?;
     let number = count(1, &mut fields)?;
     end(fields)?;
-    Some(Question::Call(which, name, Some(number)))
+    Some(Part::Finds(Question::Call(which, name, Some(number))))
 }
 
-fn late(names: &Names, mut fields: Fields<'_>) -> Option<Question>
-    ensures { result ≡ is.late names.now fields.entry }
+fn late(names: &Names, mut fields: Fields<'_>) -> Option<Part>
+    ensures { result ≡ reads names.now is.late fields.entry }
 {
     word(b"find", &mut fields)?;
     word(b"late", &mut fields)?;
-    let name = lone(names, &mut fields)?;
+    let name = name_but(names, b"before", b"after", &mut fields)?;
     let ms = number(0, MOST_MS, &mut fields)?;
     end(fields)?;
-    Some(Question::Late(name, ms))
+    Some(Part::Finds(Question::Late(name, ms)))
 }
 
-fn code_alone(mut fields: Fields<'_>) -> Option<Question>
-    ensures { result ≡ is.code fields.entry }
+fn code_alone(mut fields: Fields<'_>) -> Option<Part>
+    ensures { (names : List (List ℕ)) → result ≡ reads names is.code_alone fields.entry }
 {
     word(b"find", &mut fields)?;
     word(b"code", &mut fields)?;
     let code = code(&mut fields)?;
     end(fields)?;
-    Some(Question::Code(code, None))
+    Some(Part::Finds(Question::Code(code, None)))
 }
 
-fn code_of(names: &Names, mut fields: Fields<'_>) -> Option<Question>
-    ensures { result ≡ is.code_of names.now fields.entry }
+fn code_of(names: &Names, mut fields: Fields<'_>) -> Option<Part>
+    ensures { result ≡ reads names.now is.code_of fields.entry }
 {
     word(b"find", &mut fields)?;
     word(b"code", &mut fields)?;
@@ -69,42 +73,43 @@ fn code_of(names: &Names, mut fields: Fields<'_>) -> Option<Question>
     word(b"of", &mut fields)?;
     let name = name(names, &mut fields)?;
     end(fields)?;
-    Some(Question::Code(code, Some(name)))
+    Some(Part::Finds(Question::Code(code, Some(name))))
 }
 
-fn poll(mut fields: Fields<'_>) -> Option<Question>
-    ensures { result ≡ is.poll fields.entry }
+fn poll(mut fields: Fields<'_>) -> Option<Part>
+    ensures { (names : List (List ℕ)) → result ≡ reads names is.poll fields.entry }
 {
     word(b"find", &mut fields)?;
     word(b"section", &mut fields)?;
     word(b"poll", &mut fields)?;
     end(fields)?;
-    Some(Question::Poll)
+    Some(Part::Finds(Question::Poll))
 }
 
-fn section_begins(mut fields: Fields<'_>) -> Option<Question>
-    ensures { result ≡ is.section fields.entry }
+fn section_begins(mut fields: Fields<'_>) -> Option<Part>
+    ensures { (names : List (List ℕ)) → result ≡ reads names is.section_begins fields.entry }
 {
     word(b"find", &mut fields)?;
     word(b"section", &mut fields)?;
     let phase = section(&mut fields)?;
     end(fields)?;
-    Some(Question::Section(phase))
+    Some(Part::Finds(Question::Section(phase)))
 }
 
-fn never(names: &Names, mut fields: Fields<'_>) -> Option<Question>
-    ensures { result ≡ is.never names.now fields.entry }
+fn never(names: &Names, mut fields: Fields<'_>) -> Option<Part>
+    ensures { result ≡ reads names.now is.never fields.entry }
 {
     word(b"find", &mut fields)?;
     word(b"never", &mut fields)?;
     let name = name(names, &mut fields)?;
     end(fields)?;
-    Some(Question::Never(name))
+    Some(Part::Finds(Question::Never(name)))
 }
 
 /// Two names with a word between them, and not one twice.
 fn pair(names: &Names, between: &[u8], mut fields: Fields<'_>) -> Option<(Var, Var)>
-    ensures { result ≡ is.pair names.now fields.entry between.now }
+    ensures { (q : Var → Var → Question) → option_map (λ (t : Var × Var). Finds (q t.0 t.1)) result ≡
+        reads names.now (is.pair between.now q) fields.entry }
 {
     word(b"find", &mut fields)?;
     let first = name(names, &mut fields)?;
@@ -117,23 +122,23 @@ fn pair(names: &Names, between: &[u8], mut fields: Fields<'_>) -> Option<(Var, V
     Some((first, second))
 }
 
-fn before(names: &Names, fields: Fields<'_>) -> Option<Question>
-    ensures { result ≡ is.before names.now fields.entry }
+fn before(names: &Names, fields: Fields<'_>) -> Option<Part>
+    ensures { result ≡ reads names.now is.before fields.entry }
 {
     let (first, second) = pair(names, b"before", fields)?;
-    Some(Question::Before(first, second))
+    Some(Part::Finds(Question::Before(first, second)))
 }
 
-fn behind(names: &Names, fields: Fields<'_>) -> Option<Question>
-    ensures { result ≡ is.behind names.now fields.entry }
+fn behind(names: &Names, fields: Fields<'_>) -> Option<Part>
+    ensures { result ≡ reads names.now is.behind fields.entry }
 {
     let (first, second) = pair(names, b"after", fields)?;
-    Some(Question::Behind(first, second))
+    Some(Part::Finds(Question::Behind(first, second)))
 }
 
 /// The questions that name nothing, or a code first.
-fn words(names: &Names, line: &[u8]) -> Option<Question>
-    ensures { result ≡ is.words names.now (fields_of line.now) }
+pub(crate) fn questions(names: &Names, line: &[u8]) -> Option<Part>
+    ensures { result ≡ reads names.now is.questions (fields_of line.now) }
 {
     stuck(Fields::of(line))
         .or(code_alone(Fields::of(line)))
@@ -143,8 +148,8 @@ fn words(names: &Names, line: &[u8]) -> Option<Question>
 }
 
 /// The questions of callbacks.
-fn called(names: &Names, line: &[u8]) -> Option<Question>
-    ensures { result ≡ is.callbacks names.now (fields_of line.now) }
+pub(crate) fn calls(names: &Names, line: &[u8]) -> Option<Part>
+    ensures { result ≡ reads names.now is.calls (fields_of line.now) }
 {
     call(names, Fields::of(line))
         .or(nth_call(names, Fields::of(line)))
@@ -152,11 +157,4 @@ fn called(names: &Names, line: &[u8]) -> Option<Question>
         .or(never(names, Fields::of(line)))
         .or(before(names, Fields::of(line)))
         .or(behind(names, Fields::of(line)))
-}
-
-/// The question of a line `find`.
-pub(crate) fn question(names: &Names, line: &[u8]) -> Option<Question>
-    ensures { result ≡ is.question_of names.now (fields_of line.now) }
-{
-    words(names, line).or(called(names, line))
 }

@@ -1,7 +1,7 @@
 //! What fields of a line are: numbers of a range, names, and words that mean something.
 ghost use Rattle.std.specs.Prelude.{◌≡◌, ◌≤◌, IfSome};
 ghost use Rattle.uv_script.specs.Reading.{place_of};
-ghost use Rattle.uv_asking.specs.Grammar.{number_in, call_in, which_named, lone_name, bounded_name, offer_of, came_by, came_of};
+ghost use Rattle.uv_asking.specs.Tests.{number_in, call_in, which_named, name_but_of, offer_of, came_by, came_of};
 
 use crate::asking::{Offer, Which};
 use uv_ids::{Event, Var, is};
@@ -68,21 +68,11 @@ pub(crate) fn which(word: &[u8]) -> Option<Which>
     }
 }
 
-/// The name that a field is, where it is no word that stands between two names.
-pub(crate) fn lone_name(names: &Names, field: &[u8]) -> Option<Var>
-    ensures { result ≡ lone_name names.now field.now }
+/// The name that a field is, where it is neither of two words.
+pub(crate) fn name_but_of(names: &Names, this: &[u8], that: &[u8], field: &[u8]) -> Option<Var>
+    ensures { result ≡ name_but_of names.now this.now that.now field.now }
 {
-    if is(field, b"before") || is(field, b"after") {
-        return None;
-    }
-    names.number(field)
-}
-
-/// The name that a field is, where it may be bounded.
-pub(crate) fn bounded_name(names: &Names, field: &[u8]) -> Option<Var>
-    ensures { result ≡ bounded_name names.now field.now }
-{
-    if is(field, b"clock") || is(field, b"states") {
+    if is(field, this) || is(field, that) {
         return None;
     }
     names.number(field)

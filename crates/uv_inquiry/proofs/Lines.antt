@@ -7,7 +7,8 @@ use Rattle.uv_ids.specs.declared.fault.Fault.TheVariants as fault
 use Rattle.uv_script.specs.Lines.{lines_of}
 use Rattle.uv_asking.specs.declared.part.Said.{Said}
 use Rattle.uv_asking.specs.declared.part.Said.TheVariants.{Nothing, One, Bad}
-use Rattle.uv_asking.specs.Grammar.{said_of}
+use Rattle.uv_asking.specs.Tests.{said_of}
+use Rattle.uv_asking.proofs.Agreement.{says_read, says_only}
 use Rattle.uv_inquiry.specs.Drafts.{Draft, unsaid, with_part}
 use Rattle.uv_inquiry.specs.Grammar.{Reads, skips, says, ReadsAll, none, one, at_line}
 use Rattle.uv_inquiry.specs.Tests.{is_new, after_said, after_line, ReadsLine, ReadsLines, IsBadBehind}
@@ -15,10 +16,10 @@ use Rattle.uv_inquiry.proofs.Steps.{new_sound, new_complete}
 
 after_sound_by : (names : List (List ℕ)) (d e : Draft) (line : List ℕ) (said : Said) → said ≡ said_of names line → after_said d said ≡ Some e →
     Reads names d line e
-after_sound_by names d e line Nothing is same = subst (Reads names d line) (same_Some _ _ same) (skips (sym is))
+after_sound_by names d e line Nothing is same = subst (Reads names d line) (same_Some _ _ same) (skips (says_read names line Nothing is))
 after_sound_by names d e line (One part) is same =
     let fits = cond_some (is_new d part) (with_part d part) e same in
-    subst (Reads names d line) fits.1 (says part (sym is) (new_sound d part fits.0))
+    subst (Reads names d line) fits.1 (says part (says_read names line (One part) is) (new_sound d part fits.0))
 after_sound_by names d e line Bad is same = absurd (none-some e same)
 
 pub after_sound : (names : List (List ℕ)) (d e : Draft) (line : List ℕ) → after_line names d line ≡ Some e → Reads names d line e
@@ -26,9 +27,9 @@ after_sound names d e line same = after_sound_by names d e line (said_of names l
 
 pub after_complete : (names : List (List ℕ)) (d e : Draft) (line : List ℕ) → Reads names d line e →
     after_line names d line ≡ Some e
-after_complete names d e line (skips h) = ap (after_said d) h
+after_complete names d e line (skips h) = ap (after_said d) (sym (says_only names line Nothing h))
 after_complete names d e line (says part h new) =
-    ap (after_said d) h
+    ap (after_said d) (sym (says_only names line (One part) h))
     ∙ ap (λ (b : Bool). cond b (Some (with_part d part)) None) (new_complete d part new)
 
 -- one more line behind the others

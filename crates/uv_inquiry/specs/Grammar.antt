@@ -9,15 +9,15 @@ use Rattle.uv_engine.specs.Out.{Begins, NeverBegins}
 use Rattle.uv_engine.specs.Start.{MissesBegin}
 use Rattle.uv_asking.specs.declared.part.Part.{Part}
 use Rattle.uv_asking.specs.declared.part.Said.TheVariants.{Nothing, One}
-use Rattle.uv_asking.specs.Grammar.{said_of}
+use Rattle.uv_asking.specs.Grammar.{Says}
 use Rattle.uv_asking.specs.Asked.{Asked, asked_in}
 use Rattle.uv_inquiry.specs.Drafts.{Draft, unsaid, IsNew, with_part, finished}
 use Rattle.uv_inquiry.specs.declared.inquiry.Inquiry.{Inquiry}
 
 -- the line takes what was said before it to what was said after it, where these names are declared
 pub data Reads (names : List (List ℕ)) (d : Draft) (line : List ℕ) : Draft → Type 0 where
-  skips : said_of names line ≡ Nothing → Reads names d line d
-  says : (part : Part) → said_of names line ≡ One part → IsNew d part → Reads names d line (with_part d part)
+  skips : Says names line Nothing → Reads names d line d
+  says : (part : Part) → Says names line (One part) → IsNew d part → Reads names d line (with_part d part)
 
 -- so do these lines, one after another
 pub data ReadsAll (names : List (List ℕ)) : Draft → List (List ℕ) → Draft → Type 0 where

@@ -19,7 +19,7 @@ use Rattle.uv_asking.specs.declared.part.Part.TheVariants.{Offers, Differ, Recor
 use Rattle.uv_asking.specs.declared.part.Said.{Said}
 use Rattle.uv_asking.specs.declared.part.Said.TheVariants.{Nothing, One, Bad}
 use Rattle.uv_asking.specs.Limits.{MOST_OFFERS}
-use Rattle.uv_asking.specs.Grammar.{said_of}
+use Rattle.uv_asking.specs.Tests.{said_of}
 use Rattle.uv_asking.specs.Asked.{asked_in}
 use Rattle.uv_inquiry.specs.Drafts.{Draft, with_part, unsaid}
 use Rattle.uv_inquiry.specs.Grammar.{ReadsAll, IsBadAsking, Asks}
