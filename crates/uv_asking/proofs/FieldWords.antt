@@ -3,13 +3,11 @@ use Rattle.std.proofs.Common.{if◌then◌else◌, ◌≡◌, ◌≢◌, ℕ, Bo
 use Rattle.std.specs.Prelude.{option_and_then, IfSome}
 use Rattle.std.specs.Str.{bytes_eq}
 use Rattle.std.proofs.lemmas.Option.{same_Some, none-some}
-use Rattle.std.proofs.lemmas.Bool.{and_parts, cond_both, both_ways, eqb-true, leb-true, le-leb}
+use Rattle.std.proofs.lemmas.Bool.{and_parts, cond_both, both_ways, eqb-true, eq-eqb, leb-true, le-leb}
 use Rattle.std.proofs.lemmas.Slice.Eq.{bytes_eq-Decides}
 use Rattle.uv_ids.specs.declared.id.Var.{Var}
-use Rattle.uv_ids.specs.declared.code.Code.{Code}
 use Rattle.uv_ids.specs.declared.event.Event.{Event}
 use Rattle.uv_ids.specs.declared.event.Event.TheVariants as event
-use Rattle.uv_ids.specs.declared.phase.Phase.{Phase}
 use Rattle.uv_ids.specs.Words.{code_word, code_named, phase_word, phase_named}
 use Rattle.uv_ids.proofs.Words.{same, code_right, code_found, phase_right, phase_found}
 use Rattle.uv_script.specs.Checks.{number_of}
@@ -21,7 +19,7 @@ use Rattle.uv_asking.specs.declared.asking.Which.{Which}
 use Rattle.uv_asking.specs.declared.asking.Which.TheVariants as which
 use Rattle.uv_asking.specs.Grammar.{IsWithin, IsNth, IsVar, which_word, IsOffer, send, cancel, io, tick, wait, IsCame, take, finish, outside, waited}
 use Rattle.uv_asking.specs.Limits.{MOST_COUNT, MOST_MS, MOST_WORKER}
-use Rattle.uv_asking.specs.Tests.{is_word, name_but_of, if_within, number_in, call_in, which_named, offer_of, came_by, came_of}
+use Rattle.uv_asking.specs.Tests.{is_word, name_but_of, other_of, if_within, number_in, call_in, which_named, offer_of, came_by, came_of}
 use Rattle.uv_asking.proofs.Found.{Agrees}
 
 pub ends : {A : Type 0} (x : A) (fields : List (List ℕ)) →
@@ -48,10 +46,23 @@ name_but_found names this that field = by (bytes_eq field this) refl (bytes_eq f
   by false e false f None g = record { right = tt; found = λ v h. sym g ∙ h.2 }
   by false e false f (Some v) g = record { right = (differs _ _ e, differs _ _ f, g); found = λ v h. sym g ∙ h.2 }
 
+pub other_found : (names : List (List ℕ)) (v : Var) (field : List ℕ) →
+    Agrees (other_of names v field) (λ w. (v.0 ≢ w.0) × IsVar names field w)
+other_found names v field = by (place_of names field) refl where
+  by : (o : Option Var) → place_of names field ≡ o →
+      Agrees (option_and_then (λ (w : Var). if v.0 == w.0 then None else Some w) o) (λ w. (v.0 ≢ w.0) × IsVar names field w)
+  by None e = record { right = tt; found = λ w h. absurd (none-some _ (sym e ∙ h.1)) }
+  by (Some u) e = at (v.0 == u.0) refl where
+    at : (b : Bool) → (v.0 == u.0) ≡ b → Agrees (if b then None else Some u) (λ w. (v.0 ≢ w.0) × IsVar names field w)
+    at true f = record { right = tt; found = λ w h. absurd (h.0 (eqb-true _ _ f ∙ ap (λ (x : Var). x.0) (same_Some _ _ (sym e ∙ h.1)))) }
+    at false f = record { right = (λ g. both_ways _ f (eq-eqb _ _ g), e); found = λ w h. sym e ∙ h.1 }
+
 pub number_found : (low high : ℕ) (field : List ℕ) → Agrees (number_in low high field) (λ n. IsWithin low high field n)
 number_found low high field = record {
   right = by (number_of field) refl;
-  found = λ n h. ap (option_and_then (if_within low high)) (number_of-complete field n h.number) ∙ rw (le-leb low n h.first, le-leb n high h.last) refl;
+  found =
+      λ n h. ap (option_and_then (if_within low high)) (number_of-complete field n h.number)
+      ∙ rw (le-leb low n h.first, le-leb n high h.last) refl;
 } where
   by : (o : Option ℕ) → number_of field ≡ o → IfSome (option_and_then (if_within low high) o) (IsWithin low high field)
   by None e = tt

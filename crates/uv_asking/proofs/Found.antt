@@ -1,7 +1,6 @@
 -- What a test finds is what holds.
-use Rattle.std.proofs.Common.{◌≡◌, ◌⊎◌, inl, inr, ℕ, Bool, true, false, List, [], ◌∷◌, Option, Some, None, refl, ap, sym, ◌∙◌}
+use Rattle.std.proofs.Common.{◌≡◌, ℕ, List, [], ◌∷◌, Option, Some, None, refl, ap, ◌∙◌}
 use Rattle.std.specs.Prelude.{option_and_then, IfSome}
-use Rattle.std.specs.Option.{option_or}
 use Rattle.std.proofs.lemmas.Option.{same_Some, none-some}
 use Rattle.uv_asking.specs.Grammar.{First, FirstTwo}
 use Rattle.uv_asking.specs.Tests.{next, next_two}
@@ -15,7 +14,7 @@ pub itself : {A : Type 0} (o : Option A) → Agrees o (λ x. o ≡ Some x)
 itself None = record { right = tt; found = λ x e. e }
 itself (Some y) = record { right = refl; found = λ x e. e }
 
-each : {A : Type 0} (P Q : A → Type 0) (o : Option A) → ((x : A) → P x → Q x) → IfSome o P → IfSome o Q
+pub each : {A : Type 0} (P Q : A → Type 0) (o : Option A) → ((x : A) → P x → Q x) → IfSome o P → IfSome o Q
 each P Q None on h = tt
 each P Q (Some x) on h = on x h
 
@@ -46,15 +45,3 @@ first_two read Is more Behind h k [] = record { right = tt; found = λ said t. a
 first_two read Is more Behind h k (a ∷ []) = record { right = tt; found = λ said t. absurd t }
 first_two read Is more Behind h k (a ∷ b ∷ rest) =
     both (read a b) (Is a b) (λ x. more x rest) (λ x said. Behind x rest said) (h a b) (λ x. k x rest)
-
--- the one, or where there is none the other
-pub or_else : {A : Type 0} (o p : Option A) (P Q : A → Type 0) → Agrees o P → Agrees p Q →
-    Agrees (option_or o p) (λ said. P said ⊎ (((x : A) → P x → ⊥) × Q said))
-or_else None p P Q h k = record {
-  right = each Q _ p (λ x q. inr (λ y held. none-some _ (h.found y held), q)) k.right;
-  found = λ said t. elim t [ inl held ↦ absurd (none-some _ (h.found said held)) | inr q ↦ k.found said q.1 ];
-}
-or_else (Some x) p P Q h k = record {
-  right = inl h.right;
-  found = λ said t. elim t [ inl held ↦ h.found said held | inr q ↦ absurd (q.0 x h.right) ];
-}

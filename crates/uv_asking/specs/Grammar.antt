@@ -1,6 +1,6 @@
--- The lines behind `begin`: what may come from outside, how far the search goes, and what it looks for. A line has a form, by its fields in their
--- order, and what it says is what fits that form.
-use Rattle.std.specs.Prelude.{◌≡◌, ◌≢◌, ℕ, ◌≤◌, Bool, true, false, ◌==◌, ◌⊎◌, List, [], ◌∷◌, Some, None, if◌then◌else◌, codes}
+-- The lines behind `begin`: what may come from outside, how far the search goes, and what it looks for. A line has one of the forms listed
+-- here, by its fields in their order, and says what fits that form.
+use Rattle.std.specs.Prelude.{◌≡◌, ◌≢◌, ℕ, ◌≤◌, Bool, true, false, ◌⊎◌, List, [], ◌∷◌, ◌++◌, Some, None, codes}
 use Rattle.uv_ids.specs.declared.id.Var.{Var}
 use Rattle.uv_ids.specs.declared.code.Code.{Code}
 use Rattle.uv_ids.specs.declared.event.Event.{Event}
@@ -22,7 +22,6 @@ use Rattle.uv_asking.specs.declared.part.Said.{Said}
 use Rattle.uv_asking.specs.declared.part.Said.TheVariants.{Nothing, One, Bad}
 use Rattle.uv_asking.specs.Limits.{MOST_COUNT, MOST_MS, MOST_WORKER}
 
-infixl 30 ◌or◌
 -- ---- what fields are
 
 -- a number of this range, as it is written
@@ -71,9 +70,10 @@ pub data Form (A : Type 0) : Type 0 where
   says : A → Form A
   -- this word, and then that
   word : List ℕ → Form A → Form A
-  -- a name, and then that; or a name that is neither of two words
+  -- a name, and then that; a name that is neither of two words; a name that isn't this one
   name : (Var → Form A) → Form A
   name_but : List ℕ → List ℕ → (Var → Form A) → Form A
+  other_name : Var → (Var → Form A) → Form A
   -- a number from the first to the second; the number of a call
   number : ℕ → ℕ → (ℕ → Form A) → Form A
   nth : (ℕ → Form A) → Form A
@@ -84,10 +84,6 @@ pub data Form (A : Type 0) : Type 0 where
   -- two fields: an offer, or an event that came
   offer : (Offer → Form A) → Form A
   came : (Event × Bool → Form A) → Form A
-  -- the one, or where it doesn't fit the other
-  ◌or◌ : Form A → Form A → Form A
-  -- nothing fits
-  no_line : Form A
 
 -- the first field is read as x, and those behind it fit what then comes
 abbrev pub First : {X : Type 0} → (List ℕ → X → Type 0) → (X → List (List ℕ) → Type 0) → List (List ℕ) → Type 0
@@ -106,6 +102,8 @@ Fits names (word text form) fields said = First (λ field (is : Unit {0}). field
 Fits names (name form) fields said = First (λ field v. IsVar names field v) (λ v rest. Fits names (form v) rest said) fields
 Fits names (name_but this that form) fields said =
     First (λ field v. (field ≢ this) × (field ≢ that) × IsVar names field v) (λ v rest. Fits names (form v) rest said) fields
+Fits names (other_name v form) fields said =
+    First (λ field w. (v.0 ≢ w.0) × IsVar names field w) (λ w rest. Fits names (form w) rest said) fields
 Fits names (number low high form) fields said = First (λ field n. IsWithin low high field n) (λ n rest. Fits names (form n) rest said) fields
 Fits names (nth form) fields said = First (λ field k. IsNth field k) (λ k rest. Fits names (form k) rest said) fields
 Fits names (code form) fields said = First (λ field c. field ≡ code_word c) (λ c rest. Fits names (form c) rest said) fields
@@ -115,9 +113,11 @@ Fits names (offer form) fields said =
     FirstTwo (λ what argument o. IsOffer names what argument o) (λ o rest. Fits names (form o) rest said) fields
 Fits names (came form) fields said =
     FirstTwo (λ what argument e. IsCame names what argument e) (λ e rest. Fits names (form e) rest said) fields
-Fits {A} names (form or other) fields said =
-    Fits names form fields said ⊎ (((x : A) → Fits names form fields x → ⊥) × Fits names other fields said)
-Fits names no_line fields said = ⊥
+
+-- so they fit one of these forms
+abbrev pub FitsOne : {A : Type 0} → List (List ℕ) → List (Form A) → List (List ℕ) → A → Type 0
+FitsOne names [] fields said = ⊥
+FitsOne names (form ∷ forms) fields said = Fits names form fields said ⊎ FitsOne names forms fields said
 
 -- ---- what may come
 
@@ -127,8 +127,8 @@ may = word (codes "may") (offer (λ o. number 1 MOST_COUNT (λ n. says (Offers (
 
 -- `may send NAME N during JOB`, and not one name twice
 abbrev pub may_during : Form Part
-may_during = word (codes "may") (word (codes "send") (name (λ v. number 1 MOST_COUNT (λ n. word (codes "during") (name (λ w.
-    if v.0 == w.0 then no_line else says (Offers (record { offer = SendDuring v w; times = Some n }))))))))
+may_during = word (codes "may") (word (codes "send") (name (λ v. number 1 MOST_COUNT (λ n. word (codes "during") (other_name v (λ w.
+    says (Offers (record { offer = SendDuring v w; times = Some n }))))))))
 
 abbrev pub may_wait : Form Part
 may_wait = word (codes "may") (word (codes "wait") (says (Offers (record { offer = Wait; times = None }))))
@@ -141,8 +141,8 @@ abbrev pub recorded : Form Part
 recorded = word (codes "recorded") (number 0 MOST_COUNT (λ m. number 0 MOST_COUNT (λ n. came (λ e.
     says (Recorded (record { event = e.0; waits = e.1; polls = m; steps = n }))))))
 
-abbrev pub offers : Form Part
-offers = may or may_during or may_wait or may_differ or recorded
+abbrev pub offers : List (Form Part)
+offers = may ∷ may_during ∷ may_wait ∷ may_differ ∷ recorded ∷ []
 
 -- ---- how long callbacks take, and how far the search goes
 
@@ -168,8 +168,8 @@ most_calls =
 abbrev pub full : Form Part
 full = word (codes "full") (says Full)
 
-abbrev pub bounds : Form Part
-bounds = takes or takes_once or most_clock or most_states or most_calls or full
+abbrev pub bounds : List (Form Part)
+bounds = takes ∷ takes_once ∷ most_clock ∷ most_states ∷ most_calls ∷ full ∷ []
 
 -- ---- what is looked for
 
@@ -213,7 +213,7 @@ never = word (codes "find") (word (codes "never") (name (λ v. asks (question.Ne
 
 -- two names with a word between them, and not one name twice
 abbrev pub pair : List ℕ → (Var → Var → Question) → Form Part
-pair between q = word (codes "find") (name (λ v. word between (name (λ w. if v.0 == w.0 then no_line else asks (q v w)))))
+pair between q = word (codes "find") (name (λ v. word between (other_name v (λ w. asks (q v w)))))
 
 abbrev pub before : Form Part
 before = pair (codes "before") question.Before
@@ -221,19 +221,19 @@ before = pair (codes "before") question.Before
 abbrev pub behind : Form Part
 behind = pair (codes "after") question.Behind
 
-abbrev pub questions : Form Part
-questions = stuck or code_alone or poll or section_begins or code_of
+abbrev pub questions : List (Form Part)
+questions = latest ∷ stuck ∷ code_alone ∷ code_of ∷ poll ∷ section_begins ∷ []
 
-abbrev pub calls : Form Part
-calls = call or nth_call or late or never or before or behind
+abbrev pub calls : List (Form Part)
+calls = call ∷ nth_call ∷ late ∷ never ∷ before ∷ behind ∷ []
 
 -- ---- any line
 
-abbrev pub part : Form Part
-part = offers or bounds or latest or questions or calls
+abbrev pub forms : List (Form Part)
+forms = offers ++ bounds ++ questions ++ calls
 
 -- how a line is read, where these names are declared: empty lines and comments say nothing, and what fits no form is bad
 pub data Says (names : List (List ℕ)) (line : List ℕ) : Said → Type 0 where
   nothing : IsLine line → IsSkipped line → Says names line Nothing
-  one : (said : Part) → IsLine line → Fits names part (fields_of line) said → Says names line (One said)
-  bad : (IsLine line → IsSkipped line → ⊥) → (IsLine line → (said : Part) → Fits names part (fields_of line) said → ⊥) → Says names line Bad
+  one : (said : Part) → IsLine line → FitsOne names forms (fields_of line) said → Says names line (One said)
+  bad : (IsLine line → IsSkipped line → ⊥) → (IsLine line → (said : Part) → FitsOne names forms (fields_of line) said → ⊥) → Says names line Bad

@@ -16,7 +16,7 @@ use Rattle.uv_asking.specs.declared.asking.Which.TheVariants as which
 use Rattle.uv_asking.specs.declared.part.Part.{Part}
 use Rattle.uv_asking.specs.declared.part.Said.{Said}
 use Rattle.uv_asking.specs.declared.part.Said.TheVariants.{Nothing, One, Bad}
-use Rattle.uv_asking.specs.Grammar.{Form, says, word, name, name_but, number, nth, code, section, callbacks, offer, came, ◌or◌, no_line, part}
+use Rattle.uv_asking.specs.Grammar.{Form, says, word, name, name_but, other_name, number, nth, code, section, callbacks, offer, came, forms}
 use Rattle.uv_asking.specs.Limits.{MOST_COUNT, MOST_MS, MOST_WORKER}
 
 -- ---- what a field is
@@ -28,6 +28,10 @@ is_word text field = if bytes_eq field text then Some tt else None
 -- a name that is neither of two words
 abbrev pub name_but_of : List (List ℕ) → List ℕ → List ℕ → List ℕ → Option Var
 name_but_of names this that field = if bytes_eq field this || bytes_eq field that then None else place_of names field
+
+-- a name that isn't this one
+abbrev pub other_of : List (List ℕ) → Var → List ℕ → Option Var
+other_of names v field = option_and_then (λ (w : Var). if v.0 == w.0 then None else Some w) (place_of names field)
 
 -- a number of this range
 abbrev pub if_within : ℕ → ℕ → ℕ → Option ℕ
@@ -96,6 +100,7 @@ reads names (says x) fields = option_map (λ (end : Unit {0}). x) (none_left fie
 reads names (word text form) fields = next (is_word text) fields (λ is rest. reads names form rest)
 reads names (name form) fields = next (place_of names) fields (λ v rest. reads names (form v) rest)
 reads names (name_but this that form) fields = next (name_but_of names this that) fields (λ v rest. reads names (form v) rest)
+reads names (other_name v form) fields = next (other_of names v) fields (λ w rest. reads names (form w) rest)
 reads names (number low high form) fields = next (number_in low high) fields (λ n rest. reads names (form n) rest)
 reads names (nth form) fields = next call_in fields (λ k rest. reads names (form k) rest)
 reads names (code form) fields = next code_named fields (λ c rest. reads names (form c) rest)
@@ -103,8 +108,11 @@ reads names (section form) fields = next phase_named fields (λ x rest. reads na
 reads names (callbacks form) fields = next which_named fields (λ w rest. reads names (form w) rest)
 reads names (offer form) fields = next_two (offer_of names) fields (λ o rest. reads names (form o) rest)
 reads names (came form) fields = next_two (came_of names) fields (λ e rest. reads names (form e) rest)
-reads names (form or other) fields = option_or (reads names form fields) (reads names other fields)
-reads names no_line fields = None
+
+-- what was read before, or else what the first of these forms says that fits
+abbrev pub reads_one : {A : Type 0} → List (List ℕ) → Option A → List (Form A) → List (List ℕ) → Option A
+reads_one names read [] fields = read
+reads_one names read (form ∷ more) fields = reads_one names (option_or read (reads names form fields)) more fields
 
 -- ---- any line
 
@@ -114,4 +122,4 @@ said_by None = Bad
 
 -- how a line is read, where these names are declared
 abbrev pub said_of : List (List ℕ) → List ℕ → Said
-said_of names line = if is_line line then (if is_skipped line then Nothing else said_by (reads names part (fields_of line))) else Bad
+said_of names line = if is_line line then (if is_skipped line then Nothing else said_by (reads_one names None forms (fields_of line))) else Bad

@@ -2,10 +2,10 @@
 ghost use Rattle.std.specs.Prelude.{◌≡◌, drop};
 ghost use Rattle.uv_ids.specs.Words.{code_named, phase_named};
 ghost use Rattle.uv_script.specs.Reading.{none_left, place_of};
-ghost use Rattle.uv_asking.specs.Tests.{first_as, first_two, is_word, number_in, call_in, name_but_of, which_named, offer_of, came_of};
+ghost use Rattle.uv_asking.specs.Tests.{first_as, first_two, is_word, number_in, call_in, name_but_of, other_of, which_named, offer_of, came_of};
 
 use crate::asking::{Offer, Which};
-use crate::words::{call_in, came, count_from, name_but_of, number_in, offer, which};
+use crate::words::{call_in, came, count_from, name_but_of, number_in, offer, other_of, which};
 use uv_ids::{Code, Event, Phase, Var, is};
 use uv_script::{Fields, Names};
 
@@ -39,6 +39,15 @@ pub(crate) fn name_but(
 {
     let field = fields.next()?;
     name_but_of(names, this, that, field)
+}
+
+/// The next field, where it is a name that isn't this one.
+pub(crate) fn other_name(names: &Names, first: Var, fields: &mut Fields<'_>) -> Option<Var>
+    ensures is { result ≡ first_as (other_of names.now first) fields.old }
+    ensures rest { fields.new ≡ drop 1 fields.old }
+{
+    let field = fields.next()?;
+    other_of(names, first, field)
 }
 
 /// The next field, where it is a count from this one on.

@@ -1,13 +1,13 @@
 //! The forms of the lines behind `begin`. Each function reads the fields of its form from the first one on.
-ghost use Rattle.std.specs.Prelude.{◌≡◌, ℕ, List};
+ghost use Rattle.std.specs.Prelude.{◌≡◌, ℕ, List, None};
 ghost use Rattle.uv_script.specs.Lines.{fields_of};
 ghost use Rattle.uv_asking.specs.declared.part.Said.{Said};
 ghost use Rattle.uv_asking.specs.Grammar as is;
 ghost use Rattle.uv_asking.specs.Grammar.{Says};
-ghost use Rattle.uv_asking.specs.Tests.{reads, said_of};
+ghost use Rattle.uv_asking.specs.Tests.{reads, reads_one, said_of};
 
 use crate::asking::{Most, Offer, Offered, Recorded, Takes};
-use crate::field::{came_next, count, end, name, name_but, nth, number, offered, word};
+use crate::field::{came_next, count, end, name, name_but, nth, number, offered, other_name, word};
 use crate::part::{Part, Said};
 use crate::question::{calls, questions};
 use crate::words::MOST_MS;
@@ -32,11 +32,10 @@ pub fn read_part(names: &Names, line: &[u8]) -> Said
 }
 
 fn part(names: &Names, line: &[u8]) -> Option<Part>
-    ensures { result ≡ reads names.now is.part (fields_of line.now) }
+    ensures { result ≡ reads_one names.now None is.forms (fields_of line.now) }
 {
     offers(names, line)
         .or(bounds(names, line))
-        .or(latest(names, Fields::of(line)))
         .or(questions(names, line))
         .or(calls(names, line))
 }
@@ -44,7 +43,7 @@ fn part(names: &Names, line: &[u8]) -> Option<Part>
 // ---- what may come
 
 fn offers(names: &Names, line: &[u8]) -> Option<Part>
-    ensures { result ≡ reads names.now is.offers (fields_of line.now) }
+    ensures { result ≡ reads_one names.now None is.offers (fields_of line.now) }
 {
     may(names, Fields::of(line))
         .or(may_during(names, Fields::of(line)))
@@ -74,10 +73,7 @@ fn may_during(names: &Names, mut fields: Fields<'_>) -> Option<Part>
     let handle = name(names, &mut fields)?;
     let times = Some(count(1, &mut fields)?);
     word(b"during", &mut fields)?;
-    let job = name(names, &mut fields)?;
-    if handle.0 == job.0 {
-        return None;
-    }
+    let job = other_name(names, handle, &mut fields)?;
     end(fields)?;
     let offer = Offer::SendDuring(handle, job);
     Some(Part::Offers(Offered { offer, times }))
@@ -124,7 +120,7 @@ fn recorded(names: &Names, mut fields: Fields<'_>) -> Option<Part>
 // ---- how long callbacks take, and how far the search goes
 
 fn bounds(names: &Names, line: &[u8]) -> Option<Part>
-    ensures { result ≡ reads names.now is.bounds (fields_of line.now) }
+    ensures { result ≡ reads_one names.now None is.bounds (fields_of line.now) }
 {
     takes(names, Fields::of(line))
         .or(takes_once(names, Fields::of(line)))
@@ -192,18 +188,6 @@ fn full(mut fields: Fields<'_>) -> Option<Part>
     word(b"full", &mut fields)?;
     end(fields)?;
     Some(Part::Full)
-}
-
-// ---- what is looked for
-
-fn latest(names: &Names, mut fields: Fields<'_>) -> Option<Part>
-    ensures { result ≡ reads names.now is.latest fields.entry }
-{
-    word(b"find", &mut fields)?;
-    word(b"latest", &mut fields)?;
-    let name = name(names, &mut fields)?;
-    end(fields)?;
-    Some(Part::Latest(name))
 }
 
 /// Every line is read in some way, and in one alone.

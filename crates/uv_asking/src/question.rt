@@ -1,17 +1,29 @@
 //! The forms of `find`: what may stand behind it. Each function reads the fields of its form from the first one on.
-ghost use Rattle.std.specs.Prelude.{◌≡◌, ℕ, List, option_map};
+ghost use Rattle.std.specs.Prelude.{◌≡◌, ℕ, List, None, option_map};
 ghost use Rattle.uv_ids.specs.declared.id.Var.{Var};
 ghost use Rattle.uv_script.specs.Lines.{fields_of};
 ghost use Rattle.uv_asking.specs.declared.part.Part.TheVariants.{Finds};
 ghost use Rattle.uv_asking.specs.Grammar as is;
-ghost use Rattle.uv_asking.specs.Tests.{reads};
+ghost use Rattle.uv_asking.specs.Tests.{reads, reads_one};
 
 use crate::asking::Question;
-use crate::field::{callbacks, code, count, end, name, name_but, number, section, word};
+use crate::field::{
+    callbacks, code, count, end, name, name_but, number, other_name, section, word,
+};
 use crate::part::Part;
 use crate::words::MOST_MS;
 use uv_ids::Var;
 use uv_script::{Fields, Names};
+
+fn latest(names: &Names, mut fields: Fields<'_>) -> Option<Part>
+    ensures { result ≡ reads names.now is.latest fields.entry }
+{
+    word(b"find", &mut fields)?;
+    word(b"latest", &mut fields)?;
+    let name = name(names, &mut fields)?;
+    end(fields)?;
+    Some(Part::Latest(name))
+}
 
 fn stuck(mut fields: Fields<'_>) -> Option<Part>
     ensures { (names : List (List ℕ)) → result ≡ reads names is.stuck fields.entry }
@@ -114,10 +126,7 @@ fn pair(names: &Names, between: &[u8], mut fields: Fields<'_>) -> Option<(Var, V
     word(b"find", &mut fields)?;
     let first = name(names, &mut fields)?;
     word(between, &mut fields)?;
-    let second = name(names, &mut fields)?;
-    if first.0 == second.0 {
-        return None;
-    }
+    let second = other_name(names, first, &mut fields)?;
     end(fields)?;
     Some((first, second))
 }
@@ -138,18 +147,19 @@ fn behind(names: &Names, fields: Fields<'_>) -> Option<Part>
 
 /// The questions that name nothing, or a code first.
 pub(crate) fn questions(names: &Names, line: &[u8]) -> Option<Part>
-    ensures { result ≡ reads names.now is.questions (fields_of line.now) }
+    ensures { result ≡ reads_one names.now None is.questions (fields_of line.now) }
 {
-    stuck(Fields::of(line))
+    latest(names, Fields::of(line))
+        .or(stuck(Fields::of(line)))
         .or(code_alone(Fields::of(line)))
+        .or(code_of(names, Fields::of(line)))
         .or(poll(Fields::of(line)))
         .or(section_begins(Fields::of(line)))
-        .or(code_of(names, Fields::of(line)))
 }
 
 /// The questions of callbacks.
 pub(crate) fn calls(names: &Names, line: &[u8]) -> Option<Part>
-    ensures { result ≡ reads names.now is.calls (fields_of line.now) }
+    ensures { result ≡ reads_one names.now None is.calls (fields_of line.now) }
 {
     call(names, Fields::of(line))
         .or(nth_call(names, Fields::of(line)))

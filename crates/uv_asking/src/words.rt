@@ -1,7 +1,7 @@
 //! What fields of a line are: numbers of a range, names, and words that mean something.
 ghost use Rattle.std.specs.Prelude.{◌≡◌, ◌≤◌, IfSome};
 ghost use Rattle.uv_script.specs.Reading.{place_of};
-ghost use Rattle.uv_asking.specs.Tests.{number_in, call_in, which_named, name_but_of, offer_of, came_by, came_of};
+ghost use Rattle.uv_asking.specs.Tests.{number_in, call_in, which_named, name_but_of, other_of, offer_of, came_by, came_of};
 
 use crate::asking::{Offer, Which};
 use uv_ids::{Event, Var, is};
@@ -76,6 +76,14 @@ pub(crate) fn name_but_of(names: &Names, this: &[u8], that: &[u8], field: &[u8])
         return None;
     }
     names.number(field)
+}
+
+/// The name that a field is, where it isn't this one.
+pub(crate) fn other_of(names: &Names, first: Var, field: &[u8]) -> Option<Var>
+    ensures { result ≡ other_of names.now first field.now }
+{
+    let name = names.number(field)?;
+    if first.0 == name.0 { None } else { Some(name) }
 }
 
 /// The offer that two fields are.

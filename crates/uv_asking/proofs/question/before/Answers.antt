@@ -1,4 +1,4 @@
-use Rattle.std.proofs.Common.{◌∙◌, refl}
+use Rattle.std.proofs.Common.{◌∙◌}
 use Rattle.uv_asking.specs.declared.asking.Question.TheVariants.{Before}
 use Rattle.uv_asking.proofs.question.before.Goals as goal
 
