@@ -21,17 +21,18 @@ def does(asked: Asked, name: str) -> List[List[List[str]]]:
     return [[words[2:] for words in lines if words[:2] == [kind, name]] for kind in KINDS]
 
 
+def is_same(asked: Asked, pair: Pair) -> bool:
+    """Whether each callback does what it did where the two names change places."""
+    other = {pair[0]: pair[1], pair[1]: pair[0]}
+    return all(
+        does(asked, other.get(name, name)) == [[[other.get(word, word) for word in words] for words in lines] for lines in does(asked, name)]
+        for name in asked.names
+    )
+
+
 def speaks_of(asked: Asked) -> Set[str]:
-    """The names that a callback's line, an offer, a bound or the question names."""
-    named: Set[str] = set()
-    for line in asked.script:
-        words = line.split()
-        if words[:1] in ([kind] for kind in KINDS):
-            named.update(words[2:])
-    named.update(offer.argument for offer in asked.offers)
-    named.update(asked.most)
-    named.update(asked.question)
-    return named
+    """The names that an offer, a bound or the question names."""
+    return {offer.argument for offer in asked.offers} | set(asked.most) | set(asked.question)
 
 
 def pairs(asked: Asked) -> Set[Pair]:
@@ -39,7 +40,7 @@ def pairs(asked: Asked) -> Set[Pair]:
     if not holding.takes_at_once(asked) or asked.question == ("stuck",):
         return set()
     named = speaks_of(asked)
-    return {pair for pair in zip(asked.names, asked.names[1:]) if not named & set(pair) and does(asked, pair[0]) == does(asked, pair[1])}
+    return {pair for pair in zip(asked.names, asked.names[1:]) if not named & set(pair) and is_same(asked, pair)}
 
 
 def jobs_of(state: State) -> Dict[str, Tuple[int, List[str]]]:

@@ -170,10 +170,11 @@ def script(draw: Random, is_of_pool: bool = False) -> str:
 
 
 def shared_body(draw: Random, kinds: Dict[str, str], same: List[str]) -> List[str]:
-    """The lines of one callback, which all of these names have; seldom one of them has them not, or one more."""
-    body = ["%s%s" % (draw.choice(["", "", "", "@1 ", "@2 "]), op_of(draw, kinds)) for _ in range(draw.choice([1, 1, 2]))]
-    body = [line for line in body if "cancel " not in line]
-    lines = ["after %s %s" % (name, line) for name in same for line in body]
+    """The lines of one callback, which all of these names have, some with its own name; seldom one of them has them not, or one more."""
+    own = ["queue NAME 1 x", "queue NAME 1 x", "active NAME", "close NAME"]
+    ops = [draw.choice(own) if draw.random() < 0.35 else op_of(draw, kinds) for _ in range(draw.choice([1, 1, 2]))]
+    body = ["%s%s" % (draw.choice(["", "", "", "@1 ", "@2 "]), op) for op in ops if not op.startswith("cancel ")]
+    lines = ["after %s %s" % (name, line.replace("NAME", name)) for name in same for line in body]
     if lines and draw.random() < 0.15:
         other = draw.choice(same)
         lines = [line for line in lines if line.split()[1] != other] if draw.random() < 0.5 else lines + ["after %s alive" % other]

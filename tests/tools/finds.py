@@ -48,6 +48,26 @@ ENDLESS = "\n".join(
 )
 
 
+# Four jobs on two workers, each of which gives a timer 5 ms more.
+ALIKE = "\n".join(
+    [
+        "workers 2",
+        *(f"var job{at}" for at in range(4)),
+        "var watchdog",
+        "main init watchdog timer",
+        "main start watchdog 5 0",
+        *(f"main queue job{at} 1" for at in range(4)),
+        "main run default",
+        "on watchdog close watchdog",
+        *(f"after job{at} start watchdog 5 0" for at in range(4)),
+        "begin",
+        "may wait",
+        "find call watchdog 2",
+        "",
+    ]
+)
+
+
 class Due(NamedTuple):
     """How the answer begins, its status, and the last line that the session prints."""
 
@@ -238,6 +258,15 @@ def try_lines(check: Check, folder: str) -> None:
     check("find, each row of the table of reasons is tried", not set(reasons.ASKED_REASONS) - rows, set(reasons.ASKED_REASONS) - rows)
     ran = run([os.path.join(folder, "nowhere")])
     check("find, no such file", ran.returncode == 70 and "No such file" in ran.stderr and "Traceback" not in ran.stderr, ran)
+
+
+def try_alike(check: Check, folder: str) -> None:
+    """Jobs with the same callback are alike, and aren't where one differs: `tests/find/run --slow` says how many states are kept."""
+    path = Path(folder, "alike")
+    for text, states in ((ALIKE, 307), (ALIKE.replace("after job3 start watchdog 5 0", "after job3 start watchdog 6 0"), 436)):
+        path.write_text(text, encoding="ascii")
+        ran = run([str(path)])
+        check(f"find, jobs of one callback, {states} states", (ran.returncode, ran.stdout) == (NEVER, f"never: {states} states, every order\n"), ran)
 
 
 def try_near_and_deep(check: Check) -> None:
@@ -455,5 +484,6 @@ def try_find(tries: Tries) -> None:
         for name, due in ANSWERS.items():
             try_example(tries.check, name, due, folder)
         try_lines(tries.check, folder)
+        try_alike(tries.check, folder)
         try_near_and_deep(tries.check)
         try_interrupted(tries.check, folder)

@@ -1,6 +1,5 @@
 -- A finish is covered where workers run two requests that are alike: by that of the first one.
-use Rattle.std.proofs.Common.{◌≡◌, ℕ, zero, suc, ◌+◌, ◌-◌, ◌<◌, ◌≤◌, ◌==◌, ◌&&◌, Bool, true, false, List, [], ◌∷◌, length, length-append, slice_get, nat_eq, nat_lt, if◌then◌else◌, refl, ap, ap₂, sym, subst, ◌∙◌, Option, Some, None, arith}
-use Rattle.std.specs.Cmp.Lexicographic.{pointwise, same_text}
+use Rattle.std.proofs.Common.{◌≡◌, ℕ, zero, suc, ◌+◌, ◌-◌, ◌<◌, ◌≤◌, ◌==◌, ◌&&◌, Bool, true, false, List, [], ◌∷◌, length, length-append, slice_get, nat_lt, if◌then◌else◌, refl, ap, ap₂, sym, subst, ◌∙◌, Option, Some, None, arith}
 use Rattle.std.proofs.lemmas.Bool.{and_parts, ltb-true}
 use Rattle.std.proofs.lemmas.Option.{none-some, same_Some}
 use Rattle.uv_ids.specs.declared.event.Event.TheVariants.{Finish}
@@ -8,7 +7,6 @@ use Rattle.uv_ids.specs.declared.id.Id.{Id}
 use Rattle.uv_script.specs.Program.{worker_count}
 use Rattle.uv_records.specs.declared.named.Calls.{Calls}
 use Rattle.uv_work.specs.declared.request.Request.{Request}
-use Rattle.uv_work.specs.declared.task.Task.{Task}
 use Rattle.uv_model.specs.Queries.{run_by}
 use Rattle.uv_model.specs.State.{State, named, request}
 use Rattle.uv_order.specs.Reached.{IsReached}

@@ -1,23 +1,28 @@
--- Lines that are told to be the same are.
-use Rattle.std.proofs.Common.{◌≡◌, ℕ, zero, suc, ◌+◌, ◌<◌, ◌≤◌, ◌==◌, ◌&&◌, Bool, true, false, List, [], ◌∷◌, length, drop, nat_eq, get_or, refl, ap, ap₂, sym, ◌∙◌, Option, Some, None, arith}
-use Rattle.std.specs.Prelude.{slice_index_or, unwrap_or}
+-- Lines that are told to be the same, but for two names that are exchanged, are.
+use Rattle.std.proofs.Common.{◌≡◌, ℕ, zero, suc, ◌+◌, ◌<◌, ◌≤◌, ◌==◌, ◌&&◌, inl, inr, Bool, true, false, List, [], ◌∷◌, length, drop, nat_eq, nat_lt, get_or, if◌then◌else◌, refl, ap, ap₂, sym, subst, ◌∙◌, Option, Some, None, arith}
+use Rattle.std.specs.Prelude.{map, option_map, slice_index_or, unwrap_or}
 use Rattle.std.specs.Cmp.Lexicographic.{pointwise, same_text}
-use Rattle.std.proofs.lemmas.Bool.{and_parts, eqb-true}
+use Rattle.std.proofs.lemmas.Bool.{and_parts, cases_order, eqb-true, ltb-true}
+use Rattle.std.proofs.lemmas.Bool.Decides.{nat_tests}
 use Rattle.std.proofs.lemmas.List.{drop_all}
+use Rattle.std.proofs.lemmas.Option.{slice_get_past}
 use Rattle.std.proofs.Math.Seq.{drop-cons}
 use Rattle.uv_ids.specs.declared.id.Var.{Var}
-use Rattle.uv_ids.specs.declared.phase.Kind.{Kind}
 use Rattle.uv_ids.specs.declared.phase.Kind.TheVariants as kind
 use Rattle.uv_ids.specs.declared.seen.Callback.{Callback}
 use Rattle.uv_ids.specs.declared.seen.Callback.TheVariants as callback
 use Rattle.uv_script.specs.declared.op.Op.{Op}
 use Rattle.uv_script.specs.declared.op.Op.TheVariants as op
 use Rattle.uv_script.specs.declared.op.CallbackLine.{CallbackLine}
-use Rattle.uv_script.specs.Program.{Callbacks, lines_of, op_name}
+use Rattle.uv_script.specs.Program.{Program, Callbacks, callbacks_of, lines_in, lines_of, no_callbacks, op_name}
 use Rattle.uv_work.specs.Tasks.{text_of}
 use Rattle.uv_work.specs.declared.task.Task.{Task}
 use Rattle.uv_work.proofs.TaskLemmas as tasks
-use Rattle.uv_find.specs.Same.{kind_code, op_code, op_times, op_task, same_task, same_tasks, same_name, same_call, same_op, same_line, same_lines, same_callbacks}
+use Rattle.uv_alike.specs.Changed.{Change, changed_op, changed_callback}
+use Rattle.uv_slots.specs.Alike.{moved_var, by_names}
+use Rattle.uv_slots.specs.Arranged.{place_of}
+use Rattle.uv_find.specs.Same.{op_code, op_times, op_task, other_name, same_task, same_tasks, turned_name, same_call, turned_op, turned_line, turned_lines, turned_callbacks, all_turned}
+use Rattle.uv_find.proofs.Swap.{swap, is_equal, differs, first_goes, second_goes, other_stays}
 
 -- ---- an op is what is told of it
 
@@ -86,6 +91,70 @@ told op.Now = refl
 told op.IsAlive = refl
 told op.Timeout = refl
 
+-- and where names are others
+turned : (c : Change) (o : Op) → op_by (op_code o) (op_times o) (option_map c.var (op_name o)) (op_task o) ≡ changed_op c o
+unfolding op_by name_by
+turned c (op.Init name kind.Timer) = refl
+turned c (op.Init name kind.Idle) = refl
+turned c (op.Init name kind.Prepare) = refl
+turned c (op.Init name kind.Check) = refl
+turned c (op.Init name kind.Async) = refl
+turned c (op.Init name kind.Io) = refl
+turned c (op.Start name timeout again) = refl
+turned c (op.StartWatcher name) = refl
+turned c (op.Stop name) = refl
+turned c (op.Again name) = refl
+turned c (op.SetRepeat name again) = refl
+turned c (op.DueIn name) = refl
+turned c (op.Ref name) = refl
+turned c (op.Unref name) = refl
+turned c (op.HasRef name) = refl
+turned c (op.IsActive name) = refl
+turned c (op.Close name) = refl
+turned c (op.IsClosing name) = refl
+turned c (op.Send name) = refl
+turned c (op.Queue name task) = refl
+turned c (op.Cancel name) = refl
+turned c op.CloseLoop = refl
+turned c op.StopLoop = refl
+turned c op.UpdateTime = refl
+turned c op.Now = refl
+turned c op.IsAlive = refl
+turned c op.Timeout = refl
+
+pub name_changed : (c : Change) (o : Op) → op_name (changed_op c o) ≡ option_map c.var (op_name o)
+name_changed c (op.Init name k) = refl
+name_changed c (op.Start name timeout again) = refl
+name_changed c (op.StartWatcher name) = refl
+name_changed c (op.Stop name) = refl
+name_changed c (op.Again name) = refl
+name_changed c (op.SetRepeat name again) = refl
+name_changed c (op.DueIn name) = refl
+name_changed c (op.Ref name) = refl
+name_changed c (op.Unref name) = refl
+name_changed c (op.HasRef name) = refl
+name_changed c (op.IsActive name) = refl
+name_changed c (op.Close name) = refl
+name_changed c (op.IsClosing name) = refl
+name_changed c (op.Send name) = refl
+name_changed c (op.Queue name task) = refl
+name_changed c (op.Cancel name) = refl
+name_changed c op.CloseLoop = refl
+name_changed c op.StopLoop = refl
+name_changed c op.UpdateTime = refl
+name_changed c op.Now = refl
+name_changed c op.IsAlive = refl
+name_changed c op.Timeout = refl
+
+-- ---- which name takes a name's place
+
+pub other_is : (a : ℕ) (v : Var) → moved_var (swap a) v ≡ other_name a v
+other_is a v = by (v.0 == a) (v.0 == a + 1) refl refl where
+  by : (b c : Bool) → (v.0 == a) ≡ b → (v.0 == a + 1) ≡ c → moved_var (swap a) v ≡ (if b then record { 0 = a + 1 } else if c then record { 0 = a } else v)
+  by true c is other = λ i. record { 0 = (ap (place_of (swap a)) (is_equal v.0 a is) ∙ first_goes a) i }
+  by false true is other = λ i. record { 0 = (ap (place_of (swap a)) (is_equal v.0 (a + 1) other) ∙ second_goes a) i }
+  by false false is other = λ i. record { 0 = other_stays a v.0 (differs v.0 a is) (differs v.0 (a + 1) other) i }
+
 -- ---- what is told to be the same is
 
 pub task_right : (x y : Task) → same_task x y ≡ true → x ≡ y
@@ -99,90 +168,144 @@ tasks_right (Some x) (Some y) e = ap Some (task_right x y e)
 tasks_right None (Some y) e = absurd (let f : false ≡ true = e in cc)
 tasks_right (Some x) None e = absurd (let f : false ≡ true = e in cc)
 
-name_right : (x y : Option Var) → same_name x y ≡ true → x ≡ y
-name_right None None e = refl
-name_right (Some x) (Some y) e = ap (λ n. Some (record { 0 = n })) (eqb-true x.0 y.0 e)
-name_right None (Some y) e = absurd (let f : false ≡ true = e in cc)
-name_right (Some x) None e = absurd (let f : false ≡ true = e in cc)
-
 call_right : (x y : Option ℕ) → same_call x y ≡ true → x ≡ y
 call_right None None e = refl
 call_right (Some x) (Some y) e = ap Some (eqb-true x y e)
 call_right None (Some y) e = absurd (let f : false ≡ true = e in cc)
 call_right (Some x) None e = absurd (let f : false ≡ true = e in cc)
 
-op_right : (x y : Op) → same_op x y ≡ true → x ≡ y
-op_right x y e =
-    let task = and_parts _ _ e in
-    let name = and_parts _ _ task.0 in
-    let again = and_parts _ _ name.0 in
-    let first = and_parts _ _ again.0 in
-    let times : op_times x ≡ op_times y =
-    λ i. (eqb-true (op_times x).0 (op_times y).0 first.1 i, eqb-true (op_times x).1 (op_times y).1 again.1 i) in
-    sym (told x)
-    ∙ ap₂ (λ c t. op_by c t (op_name x) (op_task x)) (eqb-true (op_code x) (op_code y) first.0) times
-    ∙ ap₂ (λ n t. op_by (op_code y) (op_times y) n t) (name_right (op_name x) (op_name y) name.1) (tasks_right (op_task x) (op_task y) task.1)
-    ∙ told y
+module _ (a : ℕ) where
+  name_right : (x y : Option Var) → turned_name a x y ≡ true → option_map (moved_var (swap a)) x ≡ y
+  name_right None None e = refl
+  name_right (Some x) (Some y) e = ap Some (other_is a x) ∙ (λ i. Some (record { 0 = eqb-true (other_name a x).0 y.0 e i }))
+  name_right None (Some y) e = absurd (let f : false ≡ true = e in cc)
+  name_right (Some x) None e = absurd (let f : false ≡ true = e in cc)
 
-line_right : (x y : CallbackLine) → same_line x y ≡ true → x ≡ y
-line_right x y e =
-    let parts = and_parts (same_call x.call y.call) (same_op x.op y.op) e in
-    λ i. record { call = call_right x.call y.call parts.0 i; op = op_right x.op y.op parts.1 i }
+  op_right : (x y : Op) → turned_op a x y ≡ true → changed_op (by_names (swap a)) x ≡ y
+  op_right x y e =
+      let task = and_parts _ _ e in
+      let name = and_parts _ _ task.0 in
+      let again = and_parts _ _ name.0 in
+      let first = and_parts _ _ again.0 in
+      let times : op_times x ≡ op_times y =
+      λ i. (eqb-true (op_times x).0 (op_times y).0 first.1 i, eqb-true (op_times x).1 (op_times y).1 again.1 i) in
+      sym (turned (by_names (swap a)) x)
+      ∙ ap₂ (λ c t. op_by c t (option_map (moved_var (swap a)) (op_name x)) (op_task x)) (eqb-true (op_code x) (op_code y) first.0) times
+      ∙ ap₂ (λ n t. op_by (op_code y) (op_times y) n t) (name_right (op_name x) (op_name y) name.1)
+      (tasks_right (op_task x) (op_task y) task.1)
+      ∙ told y
 
-lines_right : (xs ys : List CallbackLine) → same_lines xs ys ≡ true → xs ≡ ys
-lines_right [] [] e = refl
-lines_right (x ∷ xs) (y ∷ ys) e =
-    let parts = and_parts (same_line x y) (same_lines xs ys) e in
-    ap₂ (λ (z : CallbackLine) (zs : List CallbackLine). z ∷ zs) (line_right x y parts.0) (lines_right xs ys parts.1)
-lines_right [] (y ∷ ys) e = absurd (let f : false ≡ true = e in cc)
-lines_right (x ∷ xs) [] e = absurd (let f : false ≡ true = e in cc)
+  line_right : (x y : CallbackLine) → turned_line a x y ≡ true → changed_callback (by_names (swap a)) x ≡ y
+  line_right x y e =
+      let parts = and_parts (same_call x.call y.call) (turned_op a x.op y.op) e in
+      λ i. record { call = call_right x.call y.call parts.0 i; op = op_right x.op y.op parts.1 i }
 
-pub callbacks_right : (kind : Callback) (x y : Callbacks) → same_callbacks x y ≡ true → lines_of kind x ≡ lines_of kind y
-callbacks_right kind x y e = by kind where
-  close : ((same_lines x.handle y.handle && same_lines x.after y.after) ≡ true) × (same_lines x.close y.close ≡ true)
-  close = and_parts (same_lines x.handle y.handle && same_lines x.after y.after) (same_lines x.close y.close) e
+  lines_right : (xs ys : List CallbackLine) → turned_lines a xs ys ≡ true → map (changed_callback (by_names (swap a))) xs ≡ ys
+  lines_right [] [] e = refl
+  lines_right (x ∷ xs) (y ∷ ys) e =
+      let parts = and_parts (turned_line a x y) (turned_lines a xs ys) e in
+      ap₂ (λ (z : CallbackLine) (zs : List CallbackLine). z ∷ zs) (line_right x y parts.0) (lines_right xs ys parts.1)
+  lines_right [] (y ∷ ys) e = absurd (let f : false ≡ true = e in cc)
+  lines_right (x ∷ xs) [] e = absurd (let f : false ≡ true = e in cc)
 
-  front : (same_lines x.handle y.handle ≡ true) × (same_lines x.after y.after ≡ true)
-  front = and_parts (same_lines x.handle y.handle) (same_lines x.after y.after) close.0
+  callbacks_right : (kind : Callback) (x y : Callbacks) → turned_callbacks a x y ≡ true
+      → map (changed_callback (by_names (swap a))) (lines_of kind x) ≡ lines_of kind y
+  callbacks_right kind x y e = by kind where
+    close : ((turned_lines a x.handle y.handle && turned_lines a x.after y.after) ≡ true) × (turned_lines a x.close y.close ≡ true)
+    close = and_parts (turned_lines a x.handle y.handle && turned_lines a x.after y.after) (turned_lines a x.close y.close) e
 
-  by : (kind : Callback) → lines_of kind x ≡ lines_of kind y
-  by callback.Handle = lines_right x.handle y.handle front.0
-  by callback.After = lines_right x.after y.after front.1
-  by callback.Close = lines_right x.close y.close close.1
+    front : (turned_lines a x.handle y.handle ≡ true) × (turned_lines a x.after y.after ≡ true)
+    front = and_parts (turned_lines a x.handle y.handle) (turned_lines a x.after y.after) close.0
+
+    by : (kind : Callback) → map (changed_callback (by_names (swap a))) (lines_of kind x) ≡ lines_of kind y
+    by callback.Handle = lines_right x.handle y.handle front.0
+    by callback.After = lines_right x.after y.after front.1
+    by callback.Close = lines_right x.close y.close close.1
+
+  -- of each name that is declared
+  turned_below : (p : Program) (n : ℕ) → all_turned a p n ≡ true → (v : ℕ) → v < n
+      → turned_callbacks a (callbacks_of p (record { 0 = v })) (callbacks_of p (other_name a (record { 0 = v }))) ≡ true
+  turned_below p zero e v below = absurd (omega (arith, below))
+  turned_below p (suc n) e v below = by (v == n) refl (turned_below p n parts.0 v) where
+    parts : (all_turned a p n ≡ true)
+        × (turned_callbacks a (callbacks_of p (record { 0 = n })) (callbacks_of p (other_name a (record { 0 = n }))) ≡ true)
+    parts = and_parts (all_turned a p n)
+        (turned_callbacks a (callbacks_of p (record { 0 = n })) (callbacks_of p (other_name a (record { 0 = n })))) e
+
+    below_other : (v n : ℕ) → v < suc n → (v ≡ n → ⊥) → v < n
+    below_other v n l other = elim (cases_order v n) [
+      | inl same ↦ absurd (other same)
+      | inr (inl less) ↦ less
+      | inr (inr more) ↦ absurd (omega (arith, l, more))
+    ]
+
+    Goal : Type 0
+    Goal = turned_callbacks a (callbacks_of p (record { 0 = v })) (callbacks_of p (other_name a (record { 0 = v }))) ≡ true
+
+    by : (b : Bool) → (v == n) ≡ b → (v < n → Goal) → Goal
+    by true is more = subst (λ m. turned_callbacks a (callbacks_of p (record { 0 = m })) (callbacks_of p (other_name a (record { 0 = m }))) ≡ true)
+        (sym (is_equal v n is)) parts.1
+    by false is more = more (below_other v n below (differs v n is))
+
+  not_less : (k n : ℕ) → nat_lt k n ≡ false → n ≤ k
+  not_less k n large = grind (arith, nat_tests)
+
+  -- and none that isn't has any lines
+  none_beyond : (p : Program) (v : Var) → length p.callbacks ≤ v.0 → (kind : Callback) → lines_in p kind v ≡ []
+  none_beyond p v past kind = ap (λ o. lines_of kind (unwrap_or o no_callbacks)) (slice_get_past p.callbacks v.0 past) ∙ by kind where
+    by : (kind : Callback) → lines_of kind no_callbacks ≡ []
+    by callback.Handle = refl
+    by callback.After = refl
+    by callback.Close = refl
+
+  pub lines_turned : (p : Program) → a + 1 < length p.callbacks → all_turned a p (length p.callbacks) ≡ true → (kind : Callback) (v : Var)
+      → lines_in p kind (moved_var (swap a) v) ≡ map (changed_callback (by_names (swap a))) (lines_in p kind v)
+  lines_turned p within all kind v = by (nat_lt v.0 (length p.callbacks)) refl where
+    by : (b : Bool) → nat_lt v.0 (length p.callbacks) ≡ b
+        → lines_in p kind (moved_var (swap a) v) ≡ map (changed_callback (by_names (swap a))) (lines_in p kind v)
+    by true below =
+        ap (lines_in p kind) (other_is a v)
+        ∙ sym (callbacks_right kind (callbacks_of p v) (callbacks_of p (other_name a v))
+        (turned_below p (length p.callbacks) all v.0 (ltb-true v.0 (length p.callbacks) below)))
+    by false past =
+        let beyond = not_less v.0 (length p.callbacks) past in
+        let stays : place_of (swap a) v.0 ≡ v.0 = other_stays a v.0 (λ e. omega (arith, e, within, beyond)) (λ e. omega (arith, e, within, beyond)) in
+        ap (λ n. lines_in p kind (record { 0 = n })) stays ∙ none_beyond p v beyond kind
+        ∙ sym (ap (map (changed_callback (by_names (swap a)))) (none_beyond p v beyond kind))
 
 -- ---- line by line
 
-pub other_length : (xs ys : List CallbackLine) → (length xs ≡ length ys → ⊥) → false ≡ same_lines xs ys
-other_length [] [] differ = absurd (differ refl)
-other_length (x ∷ xs) (y ∷ ys) differ =
-    by (same_line x y) (same_lines xs ys) (other_length xs ys (λ e. differ (ap suc e)))
+pub other_length : (a : ℕ) (xs ys : List CallbackLine) → (length xs ≡ length ys → ⊥) → false ≡ turned_lines a xs ys
+other_length a [] [] differ = absurd (differ refl)
+other_length a (x ∷ xs) (y ∷ ys) differ =
+    by (turned_line a x y) (turned_lines a xs ys) (other_length a xs ys (λ e. differ (ap suc e)))
   where
     by : (b c : Bool) → false ≡ c → false ≡ (b && c)
     by true c e = e
     by false c e = refl
-other_length [] (y ∷ ys) differ = refl
-other_length (x ∷ xs) [] differ = refl
+other_length a [] (y ∷ ys) differ = refl
+other_length a (x ∷ xs) [] differ = refl
 
-front_of : (xs ys : List CallbackLine) (k : ℕ) (d : CallbackLine) → k < length xs → k < length ys
-    → same_lines (drop k xs) (drop k ys) ≡ (same_line (get_or xs k d) (get_or ys k d) && same_lines (drop (k + 1) xs) (drop (k + 1) ys))
-front_of xs ys k d long other =
+front_of : (a : ℕ) (xs ys : List CallbackLine) (k : ℕ) (d : CallbackLine) → k < length xs → k < length ys
+    → turned_lines a (drop k xs) (drop k ys) ≡ (turned_line a (get_or xs k d) (get_or ys k d) && turned_lines a (drop (k + 1) xs) (drop (k + 1) ys))
+front_of a xs ys k d long other =
     let one : suc k ≡ k + 1 = omega arith in
-    ap₂ same_lines (drop-cons xs k d long ∙ ap (λ n. get_or xs k d ∷ drop n xs) one)
+    ap₂ (turned_lines a) (drop-cons xs k d long ∙ ap (λ n. get_or xs k d ∷ drop n xs) one)
     (drop-cons ys k d other ∙ ap (λ n. get_or ys k d ∷ drop n ys) one)
 
-pub lines_differ : (xs ys : List CallbackLine) (k : ℕ) (d : CallbackLine) → k < length xs → length xs ≡ length ys
-    → same_line (get_or xs k d) (get_or ys k d) ≡ false → same_lines (drop k xs) (drop k ys) ≡ same_lines xs ys → false ≡ same_lines xs ys
-lines_differ xs ys k d below long e so =
-    sym (front_of xs ys k d below (omega (arith, below, long)) ∙ ap (λ b. b && same_lines (drop (k + 1) xs) (drop (k + 1) ys)) e) ∙ so
+pub lines_differ : (a : ℕ) (xs ys : List CallbackLine) (k : ℕ) (d : CallbackLine) → k < length xs → length xs ≡ length ys
+    → turned_line a (get_or xs k d) (get_or ys k d) ≡ false → turned_lines a (drop k xs) (drop k ys) ≡ turned_lines a xs ys → false ≡ turned_lines a xs ys
+lines_differ a xs ys k d below long e so =
+    sym (front_of a xs ys k d below (omega (arith, below, long)) ∙ ap (λ b. b && turned_lines a (drop (k + 1) xs) (drop (k + 1) ys)) e) ∙ so
 
-pub lines_go_on : (xs ys : List CallbackLine) (k : ℕ) (d : CallbackLine) → k < length xs → length xs ≡ length ys
-    → same_line (get_or xs k d) (get_or ys k d) ≡ true → same_lines (drop k xs) (drop k ys) ≡ same_lines xs ys
-    → same_lines (drop (k + 1) xs) (drop (k + 1) ys) ≡ same_lines xs ys
-lines_go_on xs ys k d below long e so =
-    sym (front_of xs ys k d below (omega (arith, below, long)) ∙ ap (λ b. b && same_lines (drop (k + 1) xs) (drop (k + 1) ys)) e) ∙ so
+pub lines_go_on : (a : ℕ) (xs ys : List CallbackLine) (k : ℕ) (d : CallbackLine) → k < length xs → length xs ≡ length ys
+    → turned_line a (get_or xs k d) (get_or ys k d) ≡ true → turned_lines a (drop k xs) (drop k ys) ≡ turned_lines a xs ys
+    → turned_lines a (drop (k + 1) xs) (drop (k + 1) ys) ≡ turned_lines a xs ys
+lines_go_on a xs ys k d below long e so =
+    sym (front_of a xs ys k d below (omega (arith, below, long)) ∙ ap (λ b. b && turned_lines a (drop (k + 1) xs) (drop (k + 1) ys)) e) ∙ so
 
-pub lines_end : (xs ys : List CallbackLine) (k : ℕ) → length xs ≤ k → length xs ≡ length ys
-    → same_lines (drop k xs) (drop k ys) ≡ same_lines xs ys → true ≡ same_lines xs ys
-lines_end xs ys k past long so = sym (ap₂ same_lines (drop_all k xs past) (drop_all k ys (omega (arith, past, long)))) ∙ so
+pub lines_end : (a : ℕ) (xs ys : List CallbackLine) (k : ℕ) → length xs ≤ k → length xs ≡ length ys
+    → turned_lines a (drop k xs) (drop k ys) ≡ turned_lines a xs ys → true ≡ turned_lines a xs ys
+lines_end a xs ys k past long so = sym (ap₂ (turned_lines a) (drop_all k xs past) (drop_all k ys (omega (arith, past, long)))) ∙ so
 
 pub ruleset comparing = (other_length, lines_differ, lines_go_on, lines_end)

@@ -174,14 +174,12 @@ mates_alike p asked a now within is =
     let question = and_parts _ _ is in
     let bounds = and_parts _ _ question.0 in
     let offers = and_parts _ _ bounds.0 in
-    let callbacks = and_parts _ _ offers.0 in
     let all : (rules_of p asked).offers ≡ first_offers true ++ (finishes (worker_count p) ++ asked.offers) =
     ap (λ b. every_offer b (worker_count p) asked.offers) now ∙ offers_are true (finishes (worker_count p)) asked.offers in
     record {
       at_once = now;
       within = within;
-      same = callbacks.0;
-      callbacks = callbacks.1;
+      turned = offers.0;
       offers = subst (λ xs. offers_spare a xs ≡ true) (sym all)
           (all_front (λ (o : Offered). offer_spares a o.offer) (finishes (worker_count p)) asked.offers (spared_finishes a (worker_count p))
           offers.1);

@@ -17,10 +17,9 @@ use Rattle.uv_records.specs.declared.named.Named.{Named}
 use Rattle.uv_records.specs.declared.slot.Slot.{Slot}
 use Rattle.uv_work.specs.declared.content.Content.{Content}
 use Rattle.uv_work.specs.declared.content.Content.TheVariants as content
-use Rattle.uv_work.specs.declared.request.Request.{Request}
-use Rattle.uv_model.specs.Content.{handle_in, request_in}
+use Rattle.uv_model.specs.Content.{handle_in}
 use Rattle.uv_model.specs.Next.{Next, Moves, Refuses, next, first_due}
-use Rattle.uv_model.specs.State.{State, named, handle, request, front, with_id}
+use Rattle.uv_model.specs.State.{State, named, handle, front, with_id}
 use Rattle.uv_order.specs.Active.{IsTimer}
 use Rattle.uv_shift.specs.Earliest.{IsTimed}
 use Rattle.uv_generations.specs.Youngest.{IsInSlot, IsYoung}

@@ -1,6 +1,6 @@
 -- Where workers run two requests that are alike, what answers behind the second one's finish answers as soon behind that of the first one.
 use Rattle.std.proofs.Common.{◌≡◌, ℕ, zero, suc, ◌+◌, ◌<◌, ◌≤◌, ◌==◌, ◌&&◌, not, Bool, true, false, List, [], ◌∷◌, ◌++◌, length, slice_get, slice_set, nat_lt, nat_le, if◌then◌else◌, refl, ap, ap₂, sym, subst, ◌∙◌, Option, Some, None, arith}
-use Rattle.std.specs.Prelude.{option_map}
+use Rattle.std.specs.Prelude.{map, option_map}
 use Rattle.std.specs.List.{list_all}
 use Rattle.std.proofs.lemmas.Bool.{and_parts, ltb-true}
 use Rattle.std.proofs.lemmas.Option.{none-some, same_Some}
@@ -13,7 +13,9 @@ use Rattle.uv_ids.specs.declared.seen.Callback.TheVariants as callback
 use Rattle.uv_ids.specs.declared.seen.Seen.{Seen}
 use Rattle.uv_ids.specs.declared.seen.Seen.TheVariants as seen
 use Rattle.uv_ids.specs.declared.seen.Site.TheVariants as site
-use Rattle.uv_script.specs.Program.{Program, worker_count, is_for}
+use Rattle.uv_script.specs.declared.op.Op.{Op}
+use Rattle.uv_script.specs.declared.op.CallbackLine.{CallbackLine}
+use Rattle.uv_script.specs.Program.{Program, worker_count, is_for, lines_in, op_name}
 use Rattle.uv_records.specs.Names.{count_of}
 use Rattle.uv_records.specs.declared.named.Named.{Named}
 use Rattle.uv_model.specs.After.{after}
@@ -27,7 +29,7 @@ use Rattle.uv_order.proofs.Documents.{holds_after}
 use Rattle.uv_order.proofs.Reaching.{reached}
 use Rattle.uv_shift.specs.Shift.{ClockFits}
 use Rattle.uv_session.specs.Breaks.{answers_code, begins_section, begins_poll}
-use Rattle.uv_alike.specs.Changed.{changed_event, changed_line, changed_place}
+use Rattle.uv_alike.specs.Changed.{changed_callback, changed_event, changed_line, changed_op, changed_place}
 use Rattle.uv_slots.specs.Alike.{moved_var, by_names}
 use Rattle.uv_slots.specs.Arranged.{place_of}
 use Rattle.uv_slots.proofs.Orders.{same_place}
@@ -55,6 +57,7 @@ use Rattle.uv_find.specs.Ranks.{rank_of, runner, finish_by}
 use Rattle.uv_find.specs.Spots.{Spot, CanForget, CanTakeAtOnce, AreMates, IsSpot, is_few}
 use Rattle.uv_find.proofs.Alike.{GoesRegular, IsGoing, spot_going}
 use Rattle.uv_find.proofs.AtOnce.{will_of, wills_stay, not_less, shown, at_will_is, finish_shown}
+use Rattle.uv_find.proofs.Equal.{name_changed}
 use Rattle.uv_find.proofs.Finishing.{rank_runs}
 use Rattle.uv_find.proofs.Led.{each, event_at, led_leads, leads_spot, state_behind}
 use Rattle.uv_find.proofs.MainLines.{StaysPast, next_past}
@@ -209,11 +212,28 @@ module _ (a : ℕ) (p : Program) where
         ap₂ (λ x y. x && y) (called_within_same m parts.0) (within_same ms parts.1)
 
 module _ (r : Rules) (a : ℕ) (mates : AreMates r a) where
+  -- what an op names, where two names are exchanged
+  named_beside : (name : Var) → is_beside a (Some name) ≡ true → (o : Option Op)
+      → is_name name (name_in (option_map (changed_op (by_names (swap a))) o)) ≡ is_name name (name_in o)
+  named_beside name e None = refl
+  named_beside name e (Some o) = ap (is_name name) (name_changed (by_names (swap a)) o) ∙ by (op_name o) where
+    by : (o : Option Var) → is_name name (option_map (moved_var (swap a)) o) ≡ is_name name o
+    by None = refl
+    by (Some v) = same_var a r.program v name e
+
+  op_of : (ls : List CallbackLine) (line : ℕ) → option_map (λ (l : CallbackLine). l.op) (slice_get (map (changed_callback (by_names (swap a))) ls) line)
+      ≡ option_map (changed_op (by_names (swap a))) (option_map (λ (l : CallbackLine). l.op) (slice_get ls line))
+  op_of [] line = refl
+  op_of (l ∷ ls) zero = refl
+  op_of (l ∷ ls) (suc line) = op_of ls line
+
   name_same : (name : Var) → is_beside a (Some name) ≡ true → (l : Seen)
       → is_name name (answered_name r.program (turned a r.program l)) ≡ is_name name (answered_name r.program l)
   name_same name e (seen.Op (site.Main line) x) = refl
   name_same name e (seen.Op (site.In kind v line) x) =
-      ap (λ ls. is_name name (name_in (option_map (λ l. l.op) (slice_get ls line)))) (lines_moved r a mates kind v)
+      ap (λ ls. is_name name (name_in (option_map (λ (l : CallbackLine). l.op) (slice_get ls line)))) (lines_moved r a mates kind v)
+      ∙ ap (λ o. is_name name (name_in o)) (op_of (lines_in r.program kind v) line)
+      ∙ named_beside name e (option_map (λ (l : CallbackLine). l.op) (slice_get (lines_in r.program kind v) line))
   name_same name e (seen.After digest v id) = same_var a r.program v name e
   name_same name e (seen.Cancel v x) = same_var a r.program v name e
   name_same name e (seen.Send v code) = same_var a r.program v name e

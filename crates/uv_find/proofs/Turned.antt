@@ -1,6 +1,6 @@
 -- What is offered where one name and the next one have changed places: the same events, those of workers by other ranks.
-use Rattle.std.proofs.Common.{◌≡◌, ℕ, zero, suc, ◌+◌, ◌-◌, ◌≤◌, ◌==◌, ◌&&◌, not, Bool, true, false, List, [], ◌∷◌, length, drop, slice_get, is_some, if◌then◌else◌, refl, ap, ap₂, sym, subst, ◌∙◌, Option, Some, None, arith}
-use Rattle.std.specs.Prelude.{map, option_map, unwrap_or}
+use Rattle.std.proofs.Common.{◌≡◌, ℕ, zero, suc, ◌+◌, ◌-◌, ◌≤◌, ◌&&◌, not, Bool, true, false, List, [], ◌∷◌, length, drop, slice_get, is_some, if◌then◌else◌, refl, ap, ap₂, sym, subst, ◌∙◌, Option, Some, None, arith}
+use Rattle.std.specs.Prelude.{map, option_map}
 use Rattle.std.specs.List.{list_all}
 use Rattle.std.proofs.lemmas.Bool.{and_parts}
 use Rattle.std.proofs.lemmas.Option.{none-some, same_Some}
@@ -9,12 +9,10 @@ use Rattle.uv_ids.specs.declared.event.Event.TheVariants.{Loop, Take, Finish, Ca
 use Rattle.uv_ids.specs.declared.id.Id.{Id}
 use Rattle.uv_ids.specs.declared.id.Var.{Var}
 use Rattle.uv_ids.specs.declared.seen.Callback.{Callback}
-use Rattle.uv_ids.specs.declared.seen.Callback.TheVariants as callback
 use Rattle.uv_script.specs.declared.op.Op.{Op}
 use Rattle.uv_script.specs.declared.op.MainOp.{MainOp}
 use Rattle.uv_script.specs.declared.op.MainOp.TheVariants as main
-use Rattle.uv_script.specs.declared.op.CallbackLine.{CallbackLine}
-use Rattle.uv_script.specs.Program.{Program, Callbacks, callbacks_of, lines_of, lines_in, no_callbacks}
+use Rattle.uv_script.specs.Program.{Program, lines_in}
 use Rattle.uv_records.specs.declared.named.Named.{Named}
 use Rattle.uv_records.specs.Slots.{held}
 use Rattle.uv_work.specs.declared.content.Content.{Content}
@@ -29,7 +27,6 @@ use Rattle.uv_model.specs.declared.place.Stage.TheVariants as stage
 use Rattle.uv_alike.specs.Changed.{changed_callback, changed_event, changed_main, changed_op, changed_place, changed_stage}
 use Rattle.uv_slots.specs.Alike as slots
 use Rattle.uv_slots.specs.Alike.{moved_var, moved_content, by_names}
-use Rattle.uv_slots.specs.Arranged.{place_of}
 use Rattle.uv_asking.specs.declared.asking.Offer.{Offer}
 use Rattle.uv_asking.specs.declared.asking.Offer.TheVariants as offers
 use Rattle.uv_asking.specs.declared.asking.Offered.{Offered}
@@ -37,13 +34,12 @@ use Rattle.uv_find.specs.declared.kept.Kept.{Kept}
 use Rattle.uv_find.specs.declared.left.Left.{Left}
 use Rattle.uv_find.specs.Kept.{owes}
 use Rattle.uv_find.specs.Mates.{offer_spares, main_spares}
-use Rattle.uv_find.specs.Ops.{is_beside, spares, of_main, of_lines, of_callbacks}
+use Rattle.uv_find.specs.Ops.{is_beside, spares, of_main}
 use Rattle.uv_find.specs.Orders.{Rules, aim, is_made, is_free, spending, step_of, is_blocked, refused_as_blocked, deadline_at, deadline_in, wait_until, take_by, may_last, ends_within, is_in_poll, is_poll_stage, wait_for, is_quiet, is_behind_poll, is_closing, closes, event_of, timed, keeps_clock, is_brief, brief, offered_by, may_take}
 use Rattle.uv_find.specs.Ranks.{idle_worker, ranked}
 use Rattle.uv_find.specs.Spots.{AreMates}
-use Rattle.uv_find.proofs.Led.{each}
-use Rattle.uv_find.proofs.Equal.{callbacks_right}
-use Rattle.uv_find.proofs.Swap.{swap, is_equal, differs, swap_length, swap_order, other_stays, second_goes, first_goes}
+use Rattle.uv_find.proofs.Equal.{lines_turned}
+use Rattle.uv_find.proofs.Swap.{swap, swap_length, swap_order}
 use Rattle.uv_find.proofs.Mirrored.{NamesChange, mirrored, mirrored_next, next_mirrored, held_mirrored, named_same}
 use Rattle.uv_find.proofs.Twins.{beside_stays, beside_var}
 
@@ -51,12 +47,6 @@ use Rattle.uv_find.proofs.Twins.{beside_stays, beside_var}
 
 op_same : (a : ℕ) (o : Op) → spares a o ≡ true → changed_op (by_names (swap a)) o ≡ o
 op_same a o e = grind (arith, (beside_var a))
-
-lines_same : (a : ℕ) (ls : List CallbackLine) → of_lines (spares a) ls ≡ true → map (changed_callback (by_names (swap a))) ls ≡ ls
-lines_same a [] e = refl
-lines_same a (l ∷ ls) e =
-    let parts = and_parts (spares a l.op) (of_lines (spares a) ls) e in
-    ap₂ (λ (x : CallbackLine) (xs : List CallbackLine). x ∷ xs) (λ i. record l { op = op_same a l.op parts.0 i }) (lines_same a ls parts.1)
 
 main_same : (a : ℕ) (m : MainOp) → of_main (spares a) m ≡ true → changed_main (by_names (swap a)) m ≡ m
 main_same a (main.Op o) e = ap main.Op (op_same a o e)
@@ -86,61 +76,16 @@ pub spares_further : (a : ℕ) (p : Program) (q u : loop.Place) → line_of q �
 spares_further a p q u l e = all_further (of_main (spares a)) p.main (line_of q) (line_of u) l e
 
 module _ (r : Rules) (a : ℕ) (mates : AreMates r a) where
-  callbacks_spare : (v : Var) → of_callbacks (spares a) (callbacks_of r.program v) ≡ true
-  callbacks_spare v = by (slice_get r.program.callbacks v.0) refl where
-    by : (o : Option Callbacks) → slice_get r.program.callbacks v.0 ≡ o → of_callbacks (spares a) (unwrap_or o no_callbacks) ≡ true
-    by None e = refl
-    by (Some c) e = each (of_callbacks (spares a)) r.program.callbacks v.0 c mates.callbacks e
-
-  lines_spare : (kind : Callback) (v : Var) → of_lines (spares a) (lines_in r.program kind v) ≡ true
-  lines_spare kind v = by kind where
-    c : Callbacks
-    c = callbacks_of r.program v
-
-    parts : ((of_lines (spares a) (callbacks_of r.program v).handle && of_lines (spares a) (callbacks_of r.program v).after) ≡ true)
-        × (of_lines (spares a) (callbacks_of r.program v).close ≡ true)
-    parts = and_parts (of_lines (spares a) (callbacks_of r.program v).handle && of_lines (spares a) (callbacks_of r.program v).after)
-        (of_lines (spares a) (callbacks_of r.program v).close) (callbacks_spare v)
-
-    front : (of_lines (spares a) (callbacks_of r.program v).handle ≡ true) × (of_lines (spares a) (callbacks_of r.program v).after ≡ true)
-    front = and_parts (of_lines (spares a) (callbacks_of r.program v).handle) (of_lines (spares a) (callbacks_of r.program v).after) parts.0
-
-    by : (kind : Callback) → of_lines (spares a) (lines_of kind (callbacks_of r.program v)) ≡ true
-    by callback.Handle = front.0
-    by callback.After = front.1
-    by callback.Close = parts.1
-
-  lines_agree : (kind : Callback) → lines_in r.program kind (record { 0 = a }) ≡ lines_in r.program kind (record { 0 = a + 1 })
-  lines_agree kind =
-      callbacks_right kind (callbacks_of r.program (record { 0 = a })) (callbacks_of r.program (record { 0 = a + 1 })) mates.same
-
-  pub lines_moved : (kind : Callback) (v : Var) → lines_in r.program kind (moved_var (swap a) v) ≡ lines_in r.program kind v
-  lines_moved kind v = by (v.0 == a) (v.0 == a + 1) refl refl where
-    at : ℕ → List CallbackLine
-    at n = lines_in r.program kind (record { 0 = n })
-
-    by : (b c : Bool) → (v.0 == a) ≡ b → (v.0 == a + 1) ≡ c
-        → lines_in r.program kind (record { 0 = place_of (swap a) v.0 }) ≡ lines_in r.program kind (record { 0 = v.0 })
-    by true c is other =
-        let one : v.0 ≡ a = is_equal v.0 a is in
-        ap (λ n. lines_in r.program kind (record { 0 = place_of (swap a) n })) one
-        ∙ ap (λ n. lines_in r.program kind (record { 0 = n })) (first_goes a) ∙ sym (lines_agree kind)
-        ∙ ap (λ n. lines_in r.program kind (record { 0 = n })) (sym one)
-    by false true is other =
-        let one : v.0 ≡ a + 1 = is_equal v.0 (a + 1) other in
-        ap (λ n. lines_in r.program kind (record { 0 = place_of (swap a) n })) one
-        ∙ ap (λ n. lines_in r.program kind (record { 0 = n })) (second_goes a) ∙ lines_agree kind
-        ∙ ap (λ n. lines_in r.program kind (record { 0 = n })) (sym one)
-    by false false is other =
-        ap (λ n. lines_in r.program kind (record { 0 = n }))
-        (other_stays a v.0 (differs v.0 a is) (differs v.0 (a + 1) other))
+  pub lines_moved : (kind : Callback) (v : Var)
+      → lines_in r.program kind (moved_var (swap a) v) ≡ map (changed_callback (by_names (swap a))) (lines_in r.program kind v)
+  lines_moved = lines_turned a r.program mates.within mates.turned
 
   -- where no line that is ahead of the main program names either, the names are alike
   pub are_alike : (s : State) → a + 2 ≤ length s.names → main_spares a r.program s.place ≡ true → slots.AreAlike r.program (swap a) s
   are_alike s wide clear = record {
     order = swap_order a;
     within = (let long = swap_length a in omega (arith, wide, long));
-    lines = λ kind v. lines_moved kind v ∙ sym (lines_same a (lines_in r.program kind v) (lines_spare kind v));
+    lines = lines_moved;
     main = λ line at. main_there line at (slice_get r.program.main line) refl;
   }
     where

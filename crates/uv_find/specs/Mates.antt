@@ -1,15 +1,12 @@
 -- Requests that are alike. Where workers run two of them, all that comes behind the second one's finish comes, with their names changed, behind
 -- that of the first one: so only the first one is finished.
-use Rattle.std.specs.Prelude.{ℕ, zero, suc, ◌+◌, ◌-◌, ◌==◌, ◌&&◌, Bool, true, false, nat_eq, nat_lt, List, [], ◌∷◌, ◌++◌, length, drop, Option, Some, None, slice_get, unwrap_or, if◌then◌else◌}
+use Rattle.std.specs.Prelude.{ℕ, zero, suc, ◌+◌, ◌-◌, ◌==◌, ◌&&◌, Bool, true, false, nat_lt, List, [], ◌∷◌, ◌++◌, length, drop, Option, Some, None, slice_get, unwrap_or, if◌then◌else◌}
 use Rattle.std.specs.List.{list_all, list_any}
-use Rattle.std.specs.Cmp.Lexicographic.{pointwise}
 use Rattle.uv_ids.specs.declared.event.Event.TheVariants as event
 use Rattle.uv_ids.specs.declared.id.Id.{Id}
-use Rattle.uv_script.specs.Program.{Program, Callbacks, callbacks_of, worker_count}
+use Rattle.uv_script.specs.Program.{Program, worker_count}
 use Rattle.uv_records.specs.declared.named.Calls.{Calls}
-use Rattle.uv_work.specs.Tasks.{text_of}
 use Rattle.uv_work.specs.declared.request.Request.{Request}
-use Rattle.uv_work.specs.declared.task.Task.{Task}
 use Rattle.uv_model.specs.Bounds.{line_of}
 use Rattle.uv_model.specs.declared.place.Body.{Body}
 use Rattle.uv_model.specs.declared.place.Place as loop
@@ -24,10 +21,10 @@ use Rattle.uv_asking.specs.declared.asking.Offered.{Offered}
 use Rattle.uv_asking.specs.declared.asking.Question.{Question}
 use Rattle.uv_asking.specs.declared.asking.Question.TheVariants as asks
 use Rattle.uv_find.specs.Holding.{are_at_will, may_take_at_once}
-use Rattle.uv_find.specs.Ops.{is_beside, spares, of_main, of_callbacks}
+use Rattle.uv_find.specs.Ops.{is_beside, spares, of_main}
 use Rattle.uv_find.specs.Orders.{Rules, Place}
 use Rattle.uv_find.specs.Ranks.{runner}
-use Rattle.uv_find.specs.Same.{same_callbacks, same_task}
+use Rattle.uv_find.specs.Same.{all_turned, same_task}
 
 -- ---- names of which nothing is said
 
@@ -54,11 +51,10 @@ question_spares a (asks.Late name ms) = false
 question_spares a asks.Stuck = false
 question_spares a question = true
 
--- this name and the next one are alike: their callbacks do the same, and no callback, offer, bound or question speaks of them
+-- this name and the next one are alike: where they change places each callback does what it did, and no offer, bound or question speaks of them
 abbrev pub is_mate : Program → Asked → ℕ → Bool
 is_mate p asked a =
-    same_callbacks (callbacks_of p (record { 0 = a })) (callbacks_of p (record { 0 = a + 1 }))
-    && list_all (of_callbacks (spares a)) p.callbacks && offers_spare a asked.offers && bounds_spare a asked.most && question_spares a asked.question
+    all_turned a p (length p.callbacks) && offers_spare a asked.offers && bounds_spare a asked.most && question_spares a asked.question
 
 -- of the first names, whether each is like the next one
 abbrev pub mates_of : Program → Asked → ℕ → List Bool

@@ -14,8 +14,8 @@ use Rattle.uv_find.specs.Forgetting.{LONG, LONGEST, are_common, most_end, takes_
 use Rattle.uv_asking.specs.declared.asking.Offer.TheVariants.{Step, Take}
 use Rattle.uv_asking.specs.declared.asking.Offered.{Offered}
 use Rattle.uv_find.specs.Holding.{can_meet, asks_late, hold_of, is_loop_apart, is_at_will, are_at_will, is_clear_of_takes, is_no_cancel, may_take_at_once, loop_number}
-use Rattle.uv_find.specs.Ops.{spares, of_callbacks, each_op}
-use Rattle.uv_find.specs.Same.{same_callbacks}
+use Rattle.uv_find.specs.Ops.{each_op}
+use Rattle.uv_find.specs.Same.{all_turned}
 use Rattle.uv_find.specs.Mates.{offers_spare, bounds_spare, question_spares, mates_in, has_mate, is_covered}
 use Rattle.uv_find.specs.Kept.{owes}
 use Rattle.uv_find.specs.Orders.{at_will, may_wait, Rules, Place, Led, led, is_brief, every_offer, beginning}
@@ -31,8 +31,7 @@ use Rattle.uv_find.specs.declared.orders.Was.TheVariants as was
 use Rattle.uv_asking.specs.Asked.{Asked}
 use Rattle.uv_asking.specs.declared.asking.Question.{Question}
 use Rattle.uv_asking.specs.declared.asking.Question.TheVariants as asks
-use Rattle.uv_script.specs.Program.{Program, arena_size, worker_count, callbacks_of}
-use Rattle.std.specs.List.{list_all}
+use Rattle.uv_script.specs.Program.{Program, arena_size, worker_count}
 use Rattle.uv_session.specs.Shown.{Shown}
 
 -- where a search forgets, a slot's generations don't run out within the steps of an order
@@ -85,8 +84,7 @@ pub record CanTakeAtOnce (r : Rules) : Type 0 where
 pub record AreMates (r : Rules) (a : ℕ) : Type 0 where
   pub at_once : r.at_once ≡ true
   pub within : a + 1 < length r.program.callbacks
-  pub same : same_callbacks (callbacks_of r.program (record { 0 = a })) (callbacks_of r.program (record { 0 = a + 1 })) ≡ true
-  pub callbacks : list_all (of_callbacks (spares a)) r.program.callbacks ≡ true
+  pub turned : all_turned a r.program (length r.program.callbacks) ≡ true
   pub offers : offers_spare a r.offers ≡ true
   pub bounds : bounds_spare a r.most ≡ true
   pub question : question_spares a r.question ≡ true

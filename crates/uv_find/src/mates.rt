@@ -13,10 +13,10 @@ ghost use Rattle.uv_find.specs.Holding.{may_take_at_once};
 ghost use Rattle.uv_find.specs.Ranks.{runner};
 ghost use Rattle.uv_find.specs.Spots.{rules_by};
 
-use crate::ops::{OpTest, holds_in_callbacks, holds_in_main_from};
+use crate::ops::{OpTest, holds_in_main_from};
 use crate::questions::op_name;
 use crate::ranks::runner;
-use crate::same::{same_callbacks, same_task};
+use crate::same::{all_turned, same_task};
 use crate::terms::Terms;
 use std::alloc::{AllocError, Global};
 use uv_asking::{Asking, Most, Offer, Offered, Question};
@@ -88,15 +88,14 @@ fn question_spares(first: u32, question: Question) -> bool
     }
 }
 
-/// Whether a name and the next one are alike: their callbacks do the same, and nothing speaks of them.
+/// Whether a name and the next one are alike: where they change places each callback does what it did, and nothing else speaks of them.
 fn is_mate(script: &Script, asking: &Asking, names: usize, first: u32) -> bool
     requires whole { IsWhole script.now }
     requires names { names ≡ length script.now.names }
     requires within { first + 1 < names }
     ensures { result ≡ is_mate script.now (asked_in asking.now) first }
 {
-    same_callbacks(script, Var(first), Var(first + 1))
-        && holds_in_callbacks(script, names, OpTest::Spares(first))
+    all_turned(first, script, names)
         && offers_spare(first, &asking.offers)
         && bounds_spare(first, &asking.most)
         && question_spares(first, asking.question)

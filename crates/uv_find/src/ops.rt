@@ -70,7 +70,7 @@ fn holds_in_main(script: &Script, test: OpTest) -> bool
 }
 
 #[tactic(auto, using(crate::proofs::Scans::scanning))]
-pub(crate) fn holds_in_callbacks(script: &Script, names: usize, test: OpTest) -> bool
+fn holds_in_callbacks(script: &Script, names: usize, test: OpTest) -> bool
     requires whole { IsWhole script.now }
     requires names { names ≡ length script.now.names }
     ensures { result ≡ list_all (of_callbacks (test_of test)) script.now.callbacks }

@@ -1,7 +1,7 @@
-//! Callbacks that do the same.
-ghost use Rattle.std.specs.Prelude.{◌≡◌};
+//! Callbacks that do the same, but for their own names.
+ghost use Rattle.std.specs.Prelude.{◌≡◌, ◌+◌, ◌<◌, ◌≤◌};
 ghost use Rattle.uv_script.specs.Program.{callbacks_of, lines_in};
-ghost use Rattle.uv_find.specs.Same.{kind_code, op_code, op_times, op_task, same_task, same_tasks, same_name, same_call, same_op, same_line, same_lines, same_callbacks};
+ghost use Rattle.uv_find.specs.Same.{kind_code, op_code, op_times, op_task, other_name, same_task, same_tasks, turned_name, same_call, turned_op, turned_line, turned_lines, turned_callbacks, all_turned};
 
 use crate::questions::op_name;
 use uv_ids::{Callback, Kind, Var};
@@ -87,12 +87,27 @@ fn same_tasks(one: Option<Task>, two: Option<Task>) -> bool
     }
 }
 
-fn same_name(one: Option<Var>, two: Option<Var>) -> bool
-    ensures { result ≡ same_name one two }
+/// The name that takes this one's place, where a name and the next one change places.
+fn other_name(first: u32, name: Var) -> Var
+    requires { first + 1 < 4294967296 }
+    ensures { result ≡ other_name first name }
+{
+    if name.0 == first {
+        Var(first + 1)
+    } else if name.0 == first + 1 {
+        Var(first)
+    } else {
+        name
+    }
+}
+
+fn turned_name(first: u32, one: Option<Var>, two: Option<Var>) -> bool
+    requires { first + 1 < 4294967296 }
+    ensures { result ≡ turned_name first one two }
 {
     match (one, two) {
         (None, None) => true,
-        (Some(one), Some(two)) => one.0 == two.0,
+        (Some(one), Some(two)) => other_name(first, one).0 == two.0,
         (None, Some(_)) => false,
         (Some(_), None) => false,
     }
@@ -109,50 +124,73 @@ fn same_call(one: Option<u32>, two: Option<u32>) -> bool
     }
 }
 
-fn same_op(one: Op, two: Op) -> bool
-    ensures { result ≡ same_op one two }
+fn turned_op(first: u32, one: Op, two: Op) -> bool
+    requires { first + 1 < 4294967296 }
+    ensures { result ≡ turned_op first one two }
 {
-    let (first, again) = op_times(one);
+    let (timeout, again) = op_times(one);
     let (other, other_again) = op_times(two);
     op_code(one) == op_code(two)
-        && first == other
+        && timeout == other
         && again == other_again
-        && same_name(op_name(one), op_name(two))
+        && turned_name(first, op_name(one), op_name(two))
         && same_tasks(op_task(one), op_task(two))
 }
 
-fn same_line(one: CallbackLine, two: CallbackLine) -> bool
-    ensures { result ≡ same_line one two }
+fn turned_line(first: u32, one: CallbackLine, two: CallbackLine) -> bool
+    requires { first + 1 < 4294967296 }
+    ensures { result ≡ turned_line first one two }
 {
-    same_call(one.call, two.call) && same_op(one.op, two.op)
+    same_call(one.call, two.call) && turned_op(first, one.op, two.op)
 }
 
 #[tactic(auto, using(crate::proofs::Equal::comparing))]
-fn same_lines(one: &[CallbackLine], two: &[CallbackLine]) -> bool
-    ensures { result ≡ same_lines one.now two.now }
+fn turned_lines(first: u32, one: &[CallbackLine], two: &[CallbackLine]) -> bool
+    requires { first + 1 < 4294967296 }
+    ensures { result ≡ turned_lines first one.now two.now }
 {
     if one.len() != two.len() {
         return false;
     }
     'lines: for line in 0..one.len() {
-        if !same_line(one[line], two[line]) {
+        if !turned_line(first, one[line], two[line]) {
             return false;
         }
     }
     true
 }
 
-/// Whether the callbacks of two names do the same.
-pub(crate) fn same_callbacks(script: &Script, one: Var, two: Var) -> bool
-    ensures { result ≡ same_callbacks (callbacks_of script.now one) (callbacks_of script.now two) }
+fn turned_kind(first: u32, script: &Script, kind: Callback, one: Var, two: Var) -> bool
+    requires { first + 1 < 4294967296 }
+    ensures { result ≡ turned_lines first (lines_in script.now kind one) (lines_in script.now kind two) }
 {
-    same_kind(script, Callback::Handle, one, two)
-        && same_kind(script, Callback::After, one, two)
-        && same_kind(script, Callback::Close, one, two)
+    turned_lines(
+        first,
+        script.lines_in(kind, one),
+        script.lines_in(kind, two),
+    )
 }
 
-fn same_kind(script: &Script, kind: Callback, one: Var, two: Var) -> bool
-    ensures { result ≡ same_lines (lines_in script.now kind one) (lines_in script.now kind two) }
+/// Whether the callbacks of one name are those of another one, with the two names exchanged in their lines.
+fn turned_callbacks(first: u32, script: &Script, one: Var, two: Var) -> bool
+    requires { first + 1 < 4294967296 }
+    ensures { result ≡ turned_callbacks first (callbacks_of script.now one) (callbacks_of script.now two) }
 {
-    same_lines(script.lines_in(kind, one), script.lines_in(kind, two))
+    turned_kind(first, script, Callback::Handle, one, two)
+        && turned_kind(first, script, Callback::After, one, two)
+        && turned_kind(first, script, Callback::Close, one, two)
+}
+
+/// Whether each of the first names has the callbacks of the one whose place it takes, where a name and the next one change places.
+pub(crate) fn all_turned(first: u32, script: &Script, names: usize) -> bool
+    requires first { first + 1 < 4294967296 }
+    requires names { names ≤ 4294967296 }
+    ensures { result ≡ all_turned first script.now names }
+{
+    let mut all = true;
+    'names: for number in 0..names {
+        let name = Var(number as u32);
+        all = all && turned_callbacks(first, script, name, other_name(first, name));
+    }
+    all
 }
