@@ -150,7 +150,8 @@ name_changed c op.Timeout = refl
 
 pub other_is : (a : ℕ) (v : Var) → moved_var (swap a) v ≡ other_name a v
 other_is a v = by (v.0 == a) (v.0 == a + 1) refl refl where
-  by : (b c : Bool) → (v.0 == a) ≡ b → (v.0 == a + 1) ≡ c → moved_var (swap a) v ≡ (if b then record { 0 = a + 1 } else if c then record { 0 = a } else v)
+  by : (b c : Bool) → (v.0 == a) ≡ b → (v.0 == a + 1) ≡ c
+      → moved_var (swap a) v ≡ (if b then record { 0 = a + 1 } else if c then record { 0 = a } else v)
   by true c is other = λ i. record { 0 = (ap (place_of (swap a)) (is_equal v.0 a is) ∙ first_goes a) i }
   by false true is other = λ i. record { 0 = (ap (place_of (swap a)) (is_equal v.0 (a + 1) other) ∙ second_goes a) i }
   by false false is other = λ i. record { 0 = other_stays a v.0 (differs v.0 a is) (differs v.0 (a + 1) other) i }
@@ -294,7 +295,8 @@ front_of a xs ys k d long other =
     (drop-cons ys k d other ∙ ap (λ n. get_or ys k d ∷ drop n ys) one)
 
 pub lines_differ : (a : ℕ) (xs ys : List CallbackLine) (k : ℕ) (d : CallbackLine) → k < length xs → length xs ≡ length ys
-    → turned_line a (get_or xs k d) (get_or ys k d) ≡ false → turned_lines a (drop k xs) (drop k ys) ≡ turned_lines a xs ys → false ≡ turned_lines a xs ys
+    → turned_line a (get_or xs k d) (get_or ys k d) ≡ false → turned_lines a (drop k xs) (drop k ys) ≡ turned_lines a xs ys
+    → false ≡ turned_lines a xs ys
 lines_differ a xs ys k d below long e so =
     sym (front_of a xs ys k d below (omega (arith, below, long)) ∙ ap (λ b. b && turned_lines a (drop (k + 1) xs) (drop (k + 1) ys)) e) ∙ so
 

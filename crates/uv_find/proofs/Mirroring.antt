@@ -221,7 +221,8 @@ module _ (r : Rules) (a : ℕ) (mates : AreMates r a) where
     by None = refl
     by (Some v) = same_var a r.program v name e
 
-  op_of : (ls : List CallbackLine) (line : ℕ) → option_map (λ (l : CallbackLine). l.op) (slice_get (map (changed_callback (by_names (swap a))) ls) line)
+  op_of : (ls : List CallbackLine) (line : ℕ)
+      → option_map (λ (l : CallbackLine). l.op) (slice_get (map (changed_callback (by_names (swap a))) ls) line)
       ≡ option_map (changed_op (by_names (swap a))) (option_map (λ (l : CallbackLine). l.op) (slice_get ls line))
   op_of [] line = refl
   op_of (l ∷ ls) zero = refl

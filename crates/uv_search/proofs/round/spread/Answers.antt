@@ -29,7 +29,8 @@ moves-preserved g c =
             before = c.in_ok-look.ensures.same.1 ∙ inv.before;
             limit = w.keep.ensures.limit ∙ c.look.ensures.limit ∙ inv.limit;
             keys = λ p led h. few_on (m.moves r) (m.next r) (m.key r) (m.IsDeep r) p (m.place c.args.maze.now) c.moves.number
-                c.look.new.round.key.bytes.items c.moves.round.seen c.args.round.now.limit w.keep.new.self.seen led offered looks enters (inv.keys p led h);
+                c.look.new.round.key.bytes.items c.moves.round.seen c.args.round.now.limit w.keep.new.self.seen led offered looks enters
+                (inv.keys p led h);
           }
           )
     ]
