@@ -272,7 +272,7 @@ def try_alike(check: Check, folder: str) -> None:
 def try_near_and_deep(check: Check) -> None:
     """An answer of a few steps is found beside orders without an end, which a search that only goes deep follows. `tests/find/run --slow` says how
     many steps are needed."""
-    ran = run([str(ROOT / "tests/find/endless/near.find"), "--for", "60"])
+    ran = run([str(ROOT / "tests/find/endless/near.find")])
     check("find, near, beside orders without an end", ran.returncode == FOUND and ran.stdout.startswith("found in 18 steps, "), ran)
 
 
