@@ -75,7 +75,7 @@ CLAIMS = (
         "uv_engine/conversation.converse.text uv_engine/devices.memory_tells",
     ),
     Claim(
-        "The verdict on a recording is that of one definition, where the bytes of its reader and its writer are known, as those over memory " "are.",
+        "The verdict on a recording is that of one definition, where the bytes of its reader and its writer are known, as those over memory are.",
         "uv_engine/replaying.replay.text uv_engine/devices.memory_tells",
     ),
     Claim(

@@ -103,8 +103,19 @@ def deb(folder: Path) -> Path:
         sums = "".join(f"{hashlib.md5(items[it].data).hexdigest()}  usr/{it}\n" for it in sorted(items) if not items[it].link)
         put(room / "DEBIAN" / "md5sums", Item(sums.encode()))
         run(["dpkg-deb", "--root-owner-group", "--build", "uvt", target.name], Path(name))
-        shutil.move(Path(name) / target.name, target)
+        move(Path(name) / target.name, target)
     return target
+
+
+def move(made: Path, target: Path) -> None:
+    """What was made comes to where it is wanted: nothing half written stays there, and what stood there stands until then."""
+    part = target.with_name(target.name + ".part")
+    try:
+        shutil.copy2(made, part)
+    except OSError:
+        part.unlink(missing_ok=True)
+        raise
+    part.replace(target)
 
 
 def sources() -> list[str]:
@@ -143,5 +154,5 @@ def source(folder: Path) -> Path:
         run(["dpkg-source", "--build", top], Path(name))
         made = sorted(Path(name).glob("uvt_*"))
         for file in made:
-            shutil.move(file, folder / file.name)
+            move(file, folder / file.name)
     return next(folder / file.name for file in made if file.suffix == ".dsc")
