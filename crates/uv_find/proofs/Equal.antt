@@ -1,4 +1,4 @@
--- Lines that are told to be the same, but for two names that are exchanged, are.
+-- Lines that are told to be the same, except for two names that are exchanged, are.
 use Rattle.std.proofs.Common.{◌≡◌, ℕ, zero, suc, ◌+◌, ◌<◌, ◌≤◌, ◌==◌, ◌&&◌, inl, inr, Bool, true, false, List, [], ◌∷◌, length, drop, nat_eq, nat_lt, get_or, if◌then◌else◌, refl, ap, ap₂, sym, subst, ◌∙◌, Option, Some, None, arith}
 use Rattle.std.specs.Prelude.{map, option_map, slice_index_or, unwrap_or}
 use Rattle.std.specs.Cmp.Lexicographic.{pointwise, same_text}

@@ -1,4 +1,4 @@
--- Callbacks that do the same, but for their own names.
+-- Callbacks that do the same, except for their own names.
 use Rattle.std.specs.Prelude.{ℕ, zero, suc, ◌+◌, ◌==◌, ◌&&◌, Bool, true, false, nat_eq, List, [], ◌∷◌, Option, Some, None, if◌then◌else◌}
 use Rattle.std.specs.Cmp.Lexicographic.{pointwise}
 use Rattle.uv_ids.specs.declared.id.Var.{Var}
@@ -55,7 +55,7 @@ abbrev pub op_task : Op → Option Task
 op_task (op.Queue name task) = Some task
 op_task o = None
 
--- ---- the same, but for two names that are exchanged
+-- ---- the same, except for two names that are exchanged
 
 -- the name that takes this one's place, where a name and the next one change places
 abbrev pub other_name : ℕ → Var → Var

@@ -1,4 +1,4 @@
-//! Callbacks that do the same, but for their own names.
+//! Callbacks that do the same, except for their own names.
 ghost use Rattle.std.specs.Prelude.{◌≡◌, ◌+◌, ◌<◌, ◌≤◌};
 ghost use Rattle.uv_script.specs.Program.{callbacks_of, lines_in};
 ghost use Rattle.uv_find.specs.Same.{kind_code, op_code, op_times, op_task, other_name, same_task, same_tasks, turned_name, same_call, turned_op, turned_line, turned_lines, turned_callbacks, all_turned};
