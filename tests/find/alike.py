@@ -36,8 +36,8 @@ def speaks_of(asked: Asked) -> Set[str]:
 
 
 def pairs(asked: Asked) -> Set[Pair]:
-    """The names that are like the next one. None where workers take no request at once, and where it is asked whether the loop is stuck."""
-    if not holding.takes_at_once(asked) or asked.question == ("stuck",):
+    """The names that are like the next one. None where more comes than of the pool, and where it is asked whether the loop is stuck."""
+    if not holding.is_of_pool(asked) or asked.question == ("stuck",):
         return set()
     named = speaks_of(asked)
     return {pair for pair in zip(asked.names, asked.names[1:]) if not named & set(pair) and is_same(asked, pair)}

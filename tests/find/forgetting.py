@@ -1,10 +1,11 @@
 """Answers of a search that forgets, or holds moves back, beside those of one that doesn't:
 tests/find/forgetting [N] [--seed N] [--jobs N] [--states N] [--alike] [--find PROGRAM]
 
-Random scripts (scripts.py; their numbers are the seeds) of which a search needs to know no more than forms by names, or may hold moves back, are
-searched by the program twice: without the line `full` and with it. The answers must agree, and `found` has no more steps than with `full`; of
-`never`, the states with `full` are no fewer. Each third script is one where moves may be held back; with --alike all have requests that are
-alike. Scripts of which one search isn't settled within --states are passed over, and the slow search of tests/find/run looks at no state here.
+Random scripts (scripts.py; their numbers are the seeds) of which a search needs to know no more than what is told of them, or may hold moves
+back, are searched by the program twice: without the line `full` and with it. The answers must agree, and `found` has no more steps than with
+`full`; of `never`, the states with `full` are no fewer. Each third script is one where moves may be held back; with --alike all have requests
+that are alike. Scripts of which one search isn't settled within --states are passed over, and the slow search of tests/find/run looks at no
+state here.
 Where something is wrong, the input is left in out/find/. Status 1 if anything was, or if one kind of answer never came, or if no search kept
 fewer states by forgetting, or none by holding back. For the hand."""
 from __future__ import annotations

@@ -1,8 +1,8 @@
 """Where a search holds moves back: those of the thread pool, of the clock and of I/O, where the loop's next step is apart from them; and all
 others, where a worker takes a request at once.
 
-It is written from the words of the definitions: `may_hold`, `may_take_at_once` and `is_loop_apart` of uv_find, `is_apart` and `reads_clock` of
-uv_apart."""
+It is written from the words of the definitions: `may_hold`, `is_of_pool`, `may_take_at_once` and `is_loop_apart` of uv_find, `is_apart` and
+`reads_clock` of uv_apart."""
 from typing import Dict, List, Optional
 
 from tests.find import normal
@@ -25,10 +25,15 @@ def may_hold(asked: Asked) -> bool:
     return is_plain(asked) and all(offer.word in ("wait", "tick", "io") for offer in asked.offers)
 
 
-def takes_at_once(asked: Asked) -> bool:
-    """Whether a worker takes a request at once: workers are alike, no time of a callback is said, and nobody cancels."""
+def is_of_pool(asked: Asked) -> bool:
+    """Whether beside the pool only times, sends and callbacks of I/O come: workers are alike, and no time of a callback is said."""
     is_clear = all(offer.word in ("wait", "tick", "send", "io") and offer.job is None for offer in asked.offers)
-    return is_plain(asked) and normal.may_forget(asked) and is_clear and all(op[0] != "cancel" for _, op in normal.ops(asked))
+    return is_plain(asked) and normal.may_forget(asked) and is_clear
+
+
+def takes_at_once(asked: Asked) -> bool:
+    """Whether a worker takes a request at once: so it is, and nobody cancels."""
+    return is_of_pool(asked) and all(op[0] != "cancel" for _, op in normal.ops(asked))
 
 
 def holds_back(asked: Asked) -> bool:

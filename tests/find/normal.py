@@ -1,7 +1,7 @@
 """The form of a state by its names, of what `uvt debug` prints of it: what a search keeps where it may forget the rest. Times are as early as
 they can be, and it is forgotten in which slots handles and requests stand, and which worker runs which request.
 
-It is written from the words of the definitions: `by_name` of uv_by_name and what that is made of, `may_forget` and `calls_end` of uv_find."""
+It is written from the words of the definitions: `tale` of uv_tale, `may_forget` and `calls_end` of uv_find."""
 import re
 from typing import Iterator, List, Optional, Tuple
 
@@ -33,7 +33,7 @@ def times_of(op: List[str]) -> List[int]:
 
 
 def may_forget(asked: Asked) -> bool:
-    """Whether nothing that is asked tells a state from another one of the same form."""
+    """Whether nothing that is asked tells a state from another one of which the same is told."""
     if asked.full or asked.clock is not None or asked.differ is not None or any(offer.job is not None for offer in asked.offers):
         return False
     sizes = [line.split() for line in asked.script if line.startswith("slots ")]
@@ -54,6 +54,18 @@ def calls_told(asked: Asked) -> Optional[int]:
     if len(asked.question) == 3 and asked.question[0] in COUNTED and asked.question[1] not in ("before", "after"):
         named.append(int(asked.question[2]))
     return max([1] + [call + 1 for call in named if call is not None])
+
+
+def least_work(line: str) -> str:
+    """The line, where a request that it queues asks for one round over no text."""
+    words = line.split(" ")
+    at = 1 if words[0] == "main" else 2 + words[2].startswith("@") if words[0] in ("on", "after", "closed") else len(words)
+    return " ".join([*words[: at + 2], "1"]) if words[at : at + 1] == ["queue"] else line
+
+
+def with_same_work(asked: Asked) -> Asked:
+    """The same of the script in which each request asks for the same work, where forms are kept: no question asks what it gave."""
+    return asked._replace(script=[least_work(line) for line in asked.script]) if may_forget(asked) else asked
 
 
 # ---- the form

@@ -3,7 +3,7 @@
 Random scripts with one to four names (scripts.py; their numbers are the seeds) are searched twice: by the program, and breadth first by a
 search in Python (slow.py) that has no loop of its own and asks `uvt debug` for each step and each state. The kinds of answer must agree;
 of `never` the number of states and the bounds, too; and the session of a `found` must run in `uvt debug`: each step is offered there, is
-accepted and keeps the bounds, and the last one answers. Where the search may forget (normal.py), the slow one counts forms by names, else
+accepted and keeps the bounds, and the last one answers. Where the search may forget (normal.py), the slow one counts tales, else
 whole states. Where it may hold moves back (holding.py), as in each fourth script, the slow one goes deep first, too, holds them back, and
 counts the places that it keeps then. Where requests are alike (alike.py), as in each eighth script, it finishes the first of them first, too.
 Scripts with more places than --places are passed over, if the search doesn't answer `never` within as many.
@@ -49,7 +49,7 @@ class Tried(NamedTuple):
     # its kind of question and of answer; none where the script was passed over
     kinds: Optional[Tuple[str, str]]
     wrong: Optional[str]
-    # it is answered of forms by names
+    # it is answered of tales
     forgets: bool = False
     # moves were held back: fewer places are kept than there are
     holds: bool = False
@@ -114,7 +114,7 @@ def try_script(plan: Plan, seed: int) -> Tried:
 
 
 def try_all(plan: Plan, first: int, count: int, jobs: int) -> Tuple[int, Count[Tuple[str, str]], Count[Tuple[str, str]]]:
-    """How many are wrong; how often each kind of question had each kind of answer; and how often each came of forms by names, or of fewer places
+    """How many are wrong; how often each kind of question had each kind of answer; and how often each came of tales, or of fewer places
     than there are."""
     kinds: Count[Tuple[str, str]] = Counter()
     ways: Count[Tuple[str, str]] = Counter()

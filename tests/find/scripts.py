@@ -194,12 +194,12 @@ def alike(draw: Random) -> str:
     main = main_of(draw, kinds)
     begins = next((number for number, line in enumerate(main) if line.startswith("run ")), len(main))
     for name in same:
-        queue = "queue %s %d x" % (name, draw.choice([1] * 9 + [2]))
+        queue = "queue %s %d %s" % (name, draw.choice([1, 1, 1, 2]), draw.choice(["x", "y", name]))
         main.insert(draw.randrange((begins if draw.random() < 0.9 else len(main)) + 1), queue)
         begins += 1
     lines = ["workers %d" % draw.choice([1, 2, 2, 3])] + ["order 1.44"] * (draw.random() < 0.15)
     lines += ["var " + name for name in names] + ["main " + line for line in main]
-    lines += [line for line in bodies_of(draw, kinds) if " cancel " not in line or draw.random() < 0.1]
+    lines += [line for line in bodies_of(draw, kinds) if " cancel " not in line or draw.random() < 0.3]
     lines += shared_body(draw, kinds, same) if draw.random() < 0.6 else []
     asked = ["may send %s %d" % (name, draw.choice([1, 1, 2])) for name, kind in kinds.items() if kind == "async" and draw.random() < 0.8]
     asked += ["may tick %d 1" % draw.choice([1, 5, 7])] * (draw.random() < 0.3) + ["may wait"] * (draw.random() < 0.9)

@@ -266,12 +266,13 @@ def answers(asked: Asked, before: Place, move: Move) -> bool:
 
 
 def search(program: str, asked: Asked, cap: int) -> Settled:
-    """All places, up to so many, and the least steps to an answer among them."""
+    """All places, up to so many, and the least steps to an answer among them: where forms are kept, of requests that ask for the same work."""
+    asked = normal.with_same_work(asked)
     loop = Loop(program, asked.script)
     try:
         first = beginning(asked, loop.state)
         settled = search_from(loop, asked, first, cap)
-        if holding.holds_back(asked):
+        if holding.holds_back(asked) or alike.pairs(asked):
             loop.go_back((), first.state)
             return settled._replace(kept=places_kept(loop, asked, first, cap))
         return settled

@@ -34,13 +34,15 @@ JAVASCRIPT, LOGS = (ROOT / "tests" / "tools" / it for it in ("javascript/node20"
 FOUND, NEVER, BAD, UNSETTLED, INTERRUPTED = 0, 1, 2, 3, 130
 # (what a question may take is by the clock, and more on a busy machine)
 LONG = ["--for", "600"]
-# A pool of eight with twelve requests, each with a text of its own so that no two are alike. No search settles their orders within some seconds.
+# A pool of eight with twelve requests, each with a callback of its own so that no two are alike. No search settles their orders within some
+# seconds.
 ENDLESS = "\n".join(
     [
         "workers 8",
         *(f"var r{at}" for at in range(12)),
-        *(f"main queue r{at} 1 {at}" for at in range(12)),
+        *(f"main queue r{at} 1" for at in range(12)),
         "main run default",
+        *(f"after r{at} @{at + 1} alive" for at in range(12)),
         "begin",
         "find code EBUSY",
         "",

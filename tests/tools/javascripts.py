@@ -12,6 +12,7 @@ import os
 import re
 import subprocess
 import tempfile
+from dataclasses import replace
 from pathlib import Path
 from typing import Any
 
@@ -286,6 +287,21 @@ def try_ends(tries: Tries) -> None:
     tries.same("javascript, where a look ends that began a callback before", ended(19_000, 20_600, 60_000, [(1, 20), (20, 50)]), 21_000)
 
 
+def try_punctual(tries: Tries) -> None:
+    """An interval of which each call came when it was due: nothing drifts, and nothing is late."""
+    path = made("drift", log_at(FOLDER / "node20" / "drift.log").read_bytes())
+    script, commands = read_input(path)
+    with Walk(script, commands) as walk:
+        asked = WhyJavaScript(walk)
+        (sample,) = asked.js.named("sample")
+        calls = asked.spans[sample.id]
+        due = [calls[0].begin + sample.delay * number for number in range(len(calls))]
+        asked.spans[sample.id] = [replace(it, due=at, begin=at, end=at) for it, at in zip(calls, due)]
+        said = asked.answer("sample")
+    drifts = [it for it in said if it.startswith("drift")]
+    tries.check("javascript node20 drift: each on time", f"each on time, from {due[0]} ms to {due[-1]} ms" in said and not drifts, said)
+
+
 def try_maps(tries: Tries) -> None:
     """Places are those of what a person wrote, where a file's map says so: of a program in TypeScript, and of maps made by hand."""
     wanted = r"close \(shop\.ts:24\) took \d+ ms, [a-z ]+ of it in (?:Shop\.)?total \(shop\.ts:13\), at line 1[56]: `[^`]*.*started at shop\.ts:34"
@@ -517,6 +533,7 @@ def try_javascript(tries: Tries) -> None:
             try_maps(tries)
             try_lacks(tries)
             try_ends(tries)
+            try_punctual(tries)
             try_chain(tries)
             try_stood_still(tries)
             try_find(tries)

@@ -102,10 +102,10 @@ CLAIMS = (
         "uv_find/finding.near_is_within",
     ),
     Claim(
-        "A search takes two states for one only where they are equal, or, where it may forget, have the same form by names; and such states "
-        "go on alike where they are regular (`IsRegular`), as each is that so few steps lead to.",
-        "uv_state_key/laws.keys_tell uv_state_key/laws.forms_tell uv_by_name/laws.others_alike uv_by_name/laws.takes_alike "
-        "uv_by_name/laws.finishes_alike uv_find/finding.states_are_regular",
+        "A search takes two states for one only where they are equal, or, where it may forget, the same is told of them (`tale`); and such "
+        "states go on alike where they are regular (`IsRegular`), as each is that so few steps lead to.",
+        "uv_state_key/laws.keys_tell uv_state_key/laws.forms_tell uv_tale/laws.others_alike uv_tale/laws.takes_alike "
+        "uv_tale/laws.finishes_alike uv_find/finding.states_are_regular",
     ),
     Claim(
         "A step of the loop that doesn't read the clock and a tick, one that is no cancel and what a worker takes, and one that is apart and "
@@ -115,10 +115,8 @@ CLAIMS = (
     ),
     Claim(
         "States that are the same except for which worker runs which request go on alike, with lines that are the same except for workers' "
-        "numbers; and so do states with the same pooled form, as those with the same normal form do, where their times fit and their slots "
-        "are young (`IsTimed`, `IsYoung`).",
-        "uv_workers/laws.others_alike.alike uv_workers/laws.takes_alike.alike uv_workers/laws.finishes_alike.alike "
-        "uv_pooled/laws.others_alike uv_pooled/laws.takes_alike uv_pooled/laws.finishes_alike",
+        "numbers.",
+        "uv_workers/laws.others_alike.alike uv_workers/laws.takes_alike.alike uv_workers/laws.finishes_alike.alike",
     ),
     Claim(
         "What the search's program writes is the answer to what its input asks, where the bytes of its reader and its writer are known, as "

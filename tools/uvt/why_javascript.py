@@ -158,10 +158,10 @@ class WhyJavaScript:
             return []
         meant = spans[0].due + resource.delay * (len(spans) - 1)
         lost = spans[-1].begin - meant
-        slow = sorted(spans, key=self.late, reverse=True)[:PART]
-        most = few([f"{self.late(it)} ms at {it.begin} ms" for it in slow if self.late(it) > 0])
         if lost <= LEAST:
             return []
+        slow = [it for it in sorted(spans, key=self.late, reverse=True)[:PART] if self.late(it) > 0]
+        most = few([f"{self.late(it)} ms at {it.begin} ms" for it in slow]) if slow else ""
         who = "node" if self.js.language == "JavaScript" else "libuv"
         return [
             f"drift: call {len(spans)} came at {spans[-1].begin} ms, {lost} ms behind {len(spans)} times {resource.delay} ms:"

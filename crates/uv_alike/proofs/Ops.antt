@@ -34,21 +34,13 @@ use Rattle.uv_alike.specs.Hides.{Hides, IsWhole}
 
 pub by_test : {B D : Type 0} (left right : B → D) (b : Bool) (x y x' y' : B) → left x' ≡ right x → left y' ≡ right y →
     left (if b then x' else y') ≡ right (if b then x else y)
-by_test left right true x y x' y' h k = h
-by_test left right false x y x' y' h k = k
-
-found_cases : {A A' B D : Type 0} (left right : B → D) (g : A → A') (o : Option A) (f : A → B) (f' : A' → B) (other other' : B) →
-    ((x : A) → o ≡ Some x → left (f' (g x)) ≡ right (f x)) → left other' ≡ right other →
-    left (found_or (option_map g o) f' other') ≡ right (found_or o f other)
-found_cases left right g None f f' other other' h k = k
-found_cases left right g (Some x) f f' other other' h k = h x refl
+by_test left right b x y x' y' h k = grind arith
 
 pub found_changed : {A A' B D : Type 0} (left right : B → D) (g : A → A') (o : Option A) (o' : Option A') (f : A → B) (f' : A' → B)
     (other other' : B) →
     o' ≡ option_map g o → ((x : A) → o ≡ Some x → left (f' (g x)) ≡ right (f x)) → left other' ≡ right other →
     left (found_or o' f' other') ≡ right (found_or o f other)
-found_changed left right g o o' f f' other other' same h k =
-    ap (λ x. left (found_or x f' other')) same ∙ found_cases left right g o f f' other other' h k
+found_changed left right g o o' f f' other other' same h k = grind arith
 
 pub front_held : (s : State) (ids : List Id) (t : Id × HandleRecord) → front s ids ≡ Some t → handle s t.0 ≡ Some t.1
 front_held s ids t e = grind arith
@@ -352,18 +344,18 @@ module _ (c : Change) where
       on_list_changed id (x ∷ xs) = ap₂ (λ a b. a || b) (hides.same id x) (on_list_changed id xs)
 
       pub ended_changed : (u : State) (id : Id) (r : Request) (outcome : Outcome) → Puts u id →
-          ops.ended (changed c u) (c.id id) (changed_request c r) outcome ≡ changed c (ops.ended u id r outcome)
+          ops.ended (changed c u) (c.id id) (changed_request c r) (c.work.outcome outcome) ≡ changed c (ops.ended u id r outcome)
       ended_changed u id r outcome puts =
           ap (λ (ids : List Id). with_request (record (changed c u) { done = record (changed c u).done { list = ids } }) (c.id id)
-          (record (changed_request c r) { outcome = outcome })) (sym (one_more c.ends whole.ended u.done.list id))
+          (record (changed_request c r) { outcome = c.work.outcome outcome })) (sym (one_more c.ends whole.ended u.done.list id))
           ∙ request_put (record u { done = with_last u.done id }) id (record r { outcome = outcome }) puts
 
       cancelled_changed : (id : Id) (r : Request) → Puts s id → ops.cancelled (changed c s) (c.id id) (changed_request c r)
           ≡ changed c (ops.cancelled s id r)
       cancelled_changed id r puts =
-          ap (λ (ids : List Id). ops.ended (record (changed c s) { waiting = ids }) (c.id id) (changed_request c r) Cancelled)
+          ap₂ (λ (ids : List Id) came. ops.ended (record (changed c s) { waiting = ids }) (c.id id) (changed_request c r) came)
           (ap (λ ids. without_id ids (c.id id)) (whole.queued s.waiting) ∙ without_changed s.waiting id
-          ∙ sym (whole.queued (without_id s.waiting id)))
+          ∙ sym (whole.queued (without_id s.waiting id))) (sym hides.work.cancels)
           ∙ ended_changed (record s { waiting = without_id s.waiting id }) id r Cancelled puts
 
       by_cancel : (o : Option Op) (t : Result (Id × Request) Code) → ((u : Id × Request) → t ≡ Ok u → request s u.0 ≡ Some u.1) →
@@ -491,11 +483,12 @@ module _ (c : Change) where
           by false u = refl
 
       queued_changed : (v : Var) (task : Task) (id : Id) → next_free s.arena ≡ Some id →
-          ops.with_queued (changed c s) (c.var v) task (c.id id) ≡ changed c (ops.with_queued s v task id)
+          ops.with_queued (changed c s) (c.var v) (c.work.task task) (c.id id) ≡ changed c (ops.with_queued s v task id)
       queued_changed v task id e =
           let x = content.Request (queued v task) in
           ap₂ (λ (a : Slots Content) (ids : List Id). ops.bound_to (record (changed c s) { arena = a; waiting = ids }) (c.var v) (c.id id))
-          (hides.takes id x e) (sym (reads.queues id))
+          (ap (λ came. taken (c.id id) (content.Request (record (queued (c.var v) (c.work.task task)) { outcome = came })) (changed_arena c s.arena))
+          (sym hides.work.opens) ∙ hides.takes id x e) (sym (reads.queues id))
           ∙ bound_changed (record s { arena = taken id x s.arena; waiting = s.waiting ++ id ∷ [] }) v id refl e
 
       by_send : (w : Option Code) (id : Id) (h : HandleRecord) → Puts s id →

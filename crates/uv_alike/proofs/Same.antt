@@ -1,14 +1,14 @@
 -- What a change leaves as it is: names, or ids, or the lines of calls.
-use Rattle.uv_alike.proofs.Names.{◌≡◌, List, [], ◌∷◌, Option, Some, None, refl, ap, sym, arith, Id, Stage, Poll, Var, Op, MainOp, CallbackLine, Event, Loop, Take, Finish, Cancel, Send, Io, Tick, Slot, Content, list_any, Bool, ap₂, ℕ, State, slice_get, slice_set}
+use Rattle.uv_alike.proofs.Names.{◌≡◌, List, [], ◌∷◌, Option, Some, None, refl, ap, sym, arith, Id, Stage, Poll, Var, Op, MainOp, CallbackLine, Event, Loop, Take, Finish, Cancel, Send, Io, Tick, Slot, Content, Task, list_any, Bool, ap₂, ℕ, State, slice_get, slice_set}
 use Rattle.std.specs.Prelude.{◌||◌, map, option_map}
 use Rattle.uv_records.specs.Walks.{Walk}
 use Rattle.uv_script.specs.declared.op.Op.TheVariants as op
 use Rattle.uv_script.specs.declared.op.MainOp.TheVariants as main
-use Rattle.uv_alike.specs.Changed.{Change, changed, changed_stage, changed_walk, changed_op, changed_callback, changed_main, changed_event}
+use Rattle.uv_alike.specs.Hides.{IsWork}
+use Rattle.uv_alike.specs.Changed.{Change, same, changed, changed_stage, changed_walk, changed_op, changed_callback, changed_main, changed_event}
 
 pub option_same : {X : Type 0} (f : X → X) → ((x : X) → f x ≡ x) → (o : Option X) → option_map f o ≡ o
-option_same f same None = refl
-option_same f same (Some x) = ap Some (same x)
+option_same f same o = grind arith
 
 pub list_same : {X : Type 0} (f : X → X) → ((x : X) → f x ≡ x) → (xs : List X) → map f xs ≡ xs
 list_same f same [] = refl
@@ -25,16 +25,17 @@ any_same f test same (x ∷ xs) = ap₂ (λ a b. a || b) (same x.content) (any_s
 -- what the workers run, where no id is another
 pub runs_same : (s : State) (k : ℕ) → (slice_get s.running k ≡ option_map (option_map (λ (x : Id). x)) (slice_get s.running k))
     × ((x : Option Id) → slice_set s.running k (option_map (λ (y : Id). y) x) ≡ slice_set s.running k x)
-runs_same s k = (
-  sym (option_same _ (λ x. option_same (λ (y : Id). y) (λ y. refl) x) (slice_get s.running k)),
-  λ x. ap (slice_set s.running k) (option_same (λ (y : Id). y) (λ y. refl) x),
-)
+runs_same s k = grind arith
 
--- where no name is named anew, the script and the events stay
-module _ (c : Change) (var : (v : Var) → c.var v ≡ v) where
+-- what requests ask for stays
+pub work_same : IsWork same
+work_same = record { opens = refl; cancels = refl; finishes = λ t. refl; tells = λ o. refl }
+
+-- where no name is named anew, and requests ask for what they did, the script stays
+module _ (c : Change) (var : (v : Var) → c.var v ≡ v) (task : (t : Task) → c.work.task t ≡ t) where
   pub op_same : (o : Op) → changed_op c o ≡ o
   op_same (op.Init v k) = ap (λ w. op.Init w k) (var v)
-  op_same (op.Queue v task) = ap (λ w. op.Queue w task) (var v)
+  op_same (op.Queue v t) = ap₂ (λ w x. op.Queue w x) (var v) (task t)
   op_same (op.Cancel v) = ap op.Cancel (var v)
   op_same (op.Start v timeout repeat) = ap (λ w. op.Start w timeout repeat) (var v)
   op_same (op.StartWatcher v) = ap op.StartWatcher (var v)
@@ -65,6 +66,8 @@ module _ (c : Change) (var : (v : Var) → c.var v ≡ v) where
     by (main.Op o) = ap main.Op (op_same o)
     by (main.Run mode) = refl
 
+-- what comes from outside stays, too
+module _ (c : Change) (var : (v : Var) → c.var v ≡ v) where
   pub event_same : (e : Event) → changed_event c e ≡ e
   event_same Loop = refl
   event_same (Take k) = refl
@@ -76,7 +79,6 @@ module _ (c : Change) (var : (v : Var) → c.var v ≡ v) where
 
 -- a stage, where the time stays
 pub stage_same : (c : Change) → ((n : ℕ) → c.time n ≡ n) → (stage : Stage) → changed_stage c stage ≡ stage
-stage_same c time (Poll deadline) = ap Poll (option_same _ time deadline)
 stage_same c time stage = grind arith
 
 -- where no id is another, the lists of handles stay, and so do the requests whose callbacks are under way

@@ -27,7 +27,7 @@ use Rattle.uv_model.specs.Ops.{Coded}
 use Rattle.uv_model.specs.Next as steps
 use Rattle.uv_model.specs.Next.{Next, Refuses, first_due, collected, next}
 use Rattle.uv_alike.proofs.Cases.{if_shift}
-use Rattle.uv_alike.specs.Changed.{Change, changed, changed_handle, changed_request, changed_entry, changed_pair, changed_job, changed_line, changed_run, changed_place, changed_stage, changed_body, changed_walk, changed_callback, changed_main, changed_event, changed_answer, Comes}
+use Rattle.uv_alike.specs.Changed.{Change, changed, changed_handle, changed_request, changed_entry, changed_pair, changed_job, changed_line, changed_run, changed_place, changed_stage, changed_body, changed_walk, changed_callback, changed_main, changed_event, changed_answer, changed_program, Comes}
 use Rattle.uv_alike.specs.Hides.{Hides, IsWhole, SeesAlike}
 use Rattle.uv_alike.specs.Asks.{cancels_at, cancels_line, cancels_main, cancels_run, place_asks_done, run_asks_done, stage_asks_done, place_reads_clock, line_reads_clock, main_reads_clock, run_reads_clock, stage_reads_clock}
 use Rattle.uv_alike.proofs.Ops.{Cancels, Clocks, AreDone, Reads, by_test, found_changed, front_held, first_due_held, some_changed, found_handle, found_request, request_puts, put_changed, put_twice, stopped_changed, restarted_changed, collected_changed, request_changed, with_job, front_request_changed, front_changed, first_due_changed, alive, woken, poll_changed, deadline_changed, passed_changed, refreshed_changed, ended_changed, cancel_changed, send_changed, op_changed, whole_reads, whole_done}
@@ -46,20 +46,11 @@ turn_reads BehindClosing o = true
 turn_reads turn o = false
 
 way_turns : (o : Order) (m : Mode) (go : Bool) (t : Turn) → way_reads o (steps.way o m go t) ≡ true → turn_reads t o ≡ true
-way_turns V144 m go AtEntry e = refl
-way_turns V145 Default true AtEntry e = e
-way_turns V145 Once true AtEntry e = e
-way_turns V145 Nowait true AtEntry e = e
-way_turns V145 m false AtEntry e = e
-way_turns o m go BehindClosing e = refl
-way_turns V144 m go (Behind timers_of.Entry) e = e
-way_turns V144 m go (Behind timers_of.Iteration) e = e
-way_turns V145 m true (Behind timers_of.Entry) e = e
-way_turns V145 m false (Behind timers_of.Entry) e = e
-way_turns V145 Default true (Behind timers_of.Iteration) e = e
-way_turns V145 Default false (Behind timers_of.Iteration) e = e
-way_turns V145 Once go (Behind timers_of.Iteration) e = e
-way_turns V145 Nowait go (Behind timers_of.Iteration) e = e
+way_turns o m go t e = grind arith
+
+-- the script that the changed state is of
+abbrev script : Change → Program → Program
+script c p = changed_program c p
 
 module _ (c : Change) (p : Program) (s : State) (hides : Hides c p s) (reads : Reads c p s)
     (left right : Next → Next) (sees : SeesAlike c p s left right) where
@@ -106,11 +97,11 @@ module _ (c : Change) (p : Program) (s : State) (hides : Hides c p s) (reads : R
     by false = same
 
   called : (u u' : State) (run : Run) (id : Id) (v : Var) → u.names ≡ s.names → u' ≡ changed c u →
-      left (steps.call p u' (changed_run c run) (c.id id) (c.var v)) ≡ right (steps.call p u run id v)
-  called u u' run id v names same = ap (λ t. left (steps.call p t (changed_run c run) (c.id id) (c.var v))) same
+      left (steps.call (script c p) u' (changed_run c run) (c.id id) (c.var v)) ≡ right (steps.call p u run id v)
+  called u u' run id v names same = ap (λ t. left (steps.call (script c p) t (changed_run c run) (c.id id) (c.var v))) same
       ∙ sees.calls u run callback.Handle v (seen.Call v id) names
 
-  fire_alike : (run : Run) (part : TimersOf) → left (steps.fire p (changed c s) (changed_run c run) part) ≡ right (steps.fire p s run part)
+  fire_alike : (run : Run) (part : TimersOf) → left (steps.fire (script c p) (changed c s) (changed_run c run) part) ≡ right (steps.fire p s run part)
   fire_alike run part = found_changed left right (changed_pair c) (front s s.ready) (front (changed c s) (map c.id s.ready)) _ _ _ _
       ((front_changed c p s hides reads) s.ready)
       (λ t e. let u = record s { ready = drop 1 s.ready } in
@@ -120,7 +111,8 @@ module _ (c : Change) (p : Program) (s : State) (hides : Hides c p s) (reads : R
       ∙ (restarted_changed c p s hides) u t.0 t.1 (reads.puts t.0 t.1 is) (hides.repeats t.0 t.1 is) (hides.fires t e) hides.more))
       (turn_alike run (Behind part) (λ e. cc e))
 
-  collect_alike : (run : Run) (part : TimersOf) → left (steps.collect p (changed c s) (changed_run c run) part) ≡ right (steps.collect p s run part)
+  collect_alike : (run : Run) (part : TimersOf) → left (steps.collect (script c p) (changed c s) (changed_run c run) part)
+      ≡ right (steps.collect p s run part)
   collect_alike run part =
       found_changed left right (changed_pair c) (first_due s s.timers) (first_due (changed c s) (map (changed_entry c) s.timers)) _ _ _ _
       ((first_due_changed c p s hides reads) s.timers)
@@ -129,7 +121,7 @@ module _ (c : Change) (p : Program) (s : State) (hides : Hides c p s) (reads : R
       ∙ at_alike (collected s t.0 t.1) run (Timers part Collecting) None)
       (fire_alike run part)
 
-  call_due_alike : (run : Run) (part : TimersOf) → left (steps.call_due p (changed c s) (changed_run c run) part)
+  call_due_alike : (run : Run) (part : TimersOf) → left (steps.call_due (script c p) (changed c s) (changed_run c run) part)
       ≡ right (steps.call_due p s run part)
   call_due_alike run part =
       found_changed left right (changed_pair c) (first_due s s.timers) (first_due (changed c s) (map (changed_entry c) s.timers)) _ _ _ _
@@ -144,7 +136,7 @@ module _ (c : Change) (p : Program) (s : State) (hides : Hides c p s) (reads : R
       (turn_alike run (Behind part) (λ e. cc e))
 
   timers_alike : (run : Run) (part : TimersOf) (when : Timing) →
-      left (steps.timers p (changed c s) (changed_run c run) part when) ≡ right (steps.timers p s run part when)
+      left (steps.timers (script c p) (changed c s) (changed_run c run) part when) ≡ right (steps.timers p s run part when)
   timers_alike run part Collecting = by_test left right (from_heap p) _ _ _ _ (call_due_alike run part) (collect_alike run part)
   timers_alike run part Firing = fire_alike run part
 
@@ -183,13 +175,13 @@ module _ (c : Change) (p : Program) (s : State) (hides : Hides c p s) (reads : R
   moved_changed watcher.Check id = simp (map-append, drop-map)
   moved_changed watcher.Async id = simp (map-append, drop-map)
 
-  walk_alike : (run : Run) (k : WatcherKind) → left (steps.walk p (changed c s) (changed_run c run) k) ≡ right (steps.walk p s run k)
+  walk_alike : (run : Run) (k : WatcherKind) → left (steps.walk (script c p) (changed c s) (changed_run c run) k) ≡ right (steps.walk p s run k)
   walk_alike run k = found_changed left right (changed_pair c) (front s (watched s k).yet) (front (changed c s) (watched (changed c s) k).yet) _ _ _ _
       (yet_changed k)
       (λ t e. called (steps.front_moved s k t.0) _ run t.0 t.1.name refl (moved_changed k t.0))
       (after_walk_alike run k)
 
-  walk_async_alike : (run : Run) → left (steps.walk_async p (changed c s) (changed_run c run)) ≡ right (steps.walk_async p s run)
+  walk_async_alike : (run : Run) → left (steps.walk_async (script c p) (changed c s) (changed_run c run)) ≡ right (steps.walk_async p s run)
   walk_async_alike run =
       found_changed left right (changed_pair c) (front s s.watchers.async.yet) (front (changed c s) (map c.id s.watchers.async.yet)) _ _ _ _
       ((front_changed c p s hides reads) s.watchers.async.yet)
@@ -203,7 +195,8 @@ module _ (c : Change) (p : Program) (s : State) (hides : Hides c p s) (reads : R
       ∙ at_alike u run (Walking watcher.Async) None))
       (after_walk_alike run watcher.Async)
 
-  in_walk_alike : (run : Run) (k : WatcherKind) → left (steps.in_walk p (changed c s) (changed_run c run) k) ≡ right (steps.in_walk p s run k)
+  in_walk_alike : (run : Run) (k : WatcherKind) → left (steps.in_walk (script c p) (changed c s) (changed_run c run) k)
+      ≡ right (steps.in_walk p s run k)
   in_walk_alike run watcher.Async = walk_async_alike run
   in_walk_alike run watcher.Idle = walk_alike run watcher.Idle
   in_walk_alike run watcher.Prepare = walk_alike run watcher.Prepare
@@ -211,13 +204,14 @@ module _ (c : Change) (p : Program) (s : State) (hides : Hides c p s) (reads : R
 
   -- ---- slots that are freed
 
-  close_front_alike : (run : Run) → Clocks c s → left (steps.close_front p (changed c s) (changed_run c run)) ≡ right (steps.close_front p s run)
+  close_front_alike : (run : Run) → Clocks c s → left (steps.close_front (script c p) (changed c s) (changed_run c run))
+      ≡ right (steps.close_front p s run)
   close_front_alike run time =
       found_changed left right (changed_pair c) (front s s.closing.yet) (front (changed c s) (map c.id s.closing.yet)) _ _ _ _
       ((front_changed c p s hides reads) s.closing.yet)
       (λ t e. let last = (arena_size p).last_generation in
       let gone = record s { arena = freed last t.0 s.arena; closing = record s.closing { yet = drop 1 s.closing.yet } } in
-      ap₂ (λ (a : Slots Content) (ids : List Id). left (steps.calls p
+      ap₂ (λ (a : Slots Content) (ids : List Id). left (steps.calls (script c p)
       (record (changed c s) { arena = a; closing = record (changed_walk c s.closing) { yet = ids } }) (changed_run c run) callback.Close
       (c.var t.1.name)
       (seen.Closed (c.var t.1.name) (c.id t.0))))
@@ -226,18 +220,21 @@ module _ (c : Change) (p : Program) (s : State) (hides : Hides c p s) (reads : R
       ∙ sees.calls gone run callback.Close t.1.name (seen.Closed t.1.name t.0) refl)
       (turn_alike run BehindClosing (λ e. time))
 
-  collect_request_alike : (run : Run) → left (steps.collect_request p (changed c s) (changed_run c run)) ≡ right (steps.collect_request p s run)
+  collect_request_alike : (run : Run) → left (steps.collect_request (script c p) (changed c s) (changed_run c run))
+      ≡ right (steps.collect_request p s run)
   collect_request_alike run =
       found_changed left right (changed_job c) (front_request s s.done.yet) (front_request (changed c s) (map c.id s.done.yet)) _ _ _ _
       reads.found
       (λ t e. let last = (arena_size p).last_generation in
       let line = seen.After (digest_in t.1.outcome) t.1.name t.0 in
       let gone = record s { arena = freed last t.0 s.arena; done = record s.done { yet = drop 1 s.done.yet } } in
-      ap₂ (λ (a : Slots Content) (ids : List Id). left (steps.calls p
+      ap₂ (λ (a : Slots Content) (ids : List Id). left (steps.calls (script c p)
       (record (changed c s) { arena = a; done = record (changed c s).done { yet = ids } }) (changed_run c run) callback.After (c.var t.1.name)
-      (changed_line c p line)))
+      (seen.After (digest_in (c.work.outcome t.1.outcome)) (c.var t.1.name) (c.id t.0))))
       (reads.collects t e)
       (drop-map c.id 1 s.done.yet)
+      ∙ ap (λ digest. left (steps.calls (script c p) (changed c gone) (changed_run c run) callback.After (c.var t.1.name)
+      (seen.After digest (c.var t.1.name) (c.id t.0)))) (hides.work.tells t.1.outcome)
       ∙ sees.calls gone run callback.After t.1.name line refl)
       (begin_walk_alike run watcher.Async)
 
@@ -259,7 +256,7 @@ module _ (c : Change) (p : Program) (s : State) (hides : Hides c p s) (reads : R
 
   stage_alike : (run : Run) (stage : Stage) → (stage_asks_done stage ≡ true → AreDone c s) →
       (stage_reads_clock stage (order_of p) ≡ true → Clocks c s) →
-      left (steps.stage_step p (changed c s) (changed_run c run) (changed_stage c stage)) ≡ right (steps.stage_step p s run stage)
+      left (steps.stage_step (script c p) (changed c s) (changed_run c run) (changed_stage c stage)) ≡ right (steps.stage_step p s run stage)
   stage_alike run Entry done time = turn_alike run AtEntry (λ e. time (by (order_of p) e)) where
     by : (o : Order) → turn_reads AtEntry o ≡ true → stage_reads_clock Entry o ≡ true
     by V144 e = e
@@ -276,7 +273,7 @@ module _ (c : Change) (p : Program) (s : State) (hides : Hides c p s) (reads : R
 
   body_alike : (run : Run) (body : Body) (x : Option CallbackLine) → slice_get (lines_in p body.callback body.name) body.next ≡ x →
       (cancels_line x ≡ true → Cancels c s) → (line_reads_clock x ≡ true → Clocks c s) →
-      left (steps.body_step p (changed c s) (changed_run c run) (changed_body c body) (option_map (changed_callback c) x))
+      left (steps.body_step (script c p) (changed c s) (changed_run c run) (changed_body c body) (option_map (changed_callback c) x))
       ≡ right (steps.body_step p s run body x)
   body_alike run body None e work time = sees.stays (record s { place = Running (record run { body = None }) }) None
   body_alike run body (Some line) e work time =
@@ -285,22 +282,23 @@ module _ (c : Change) (p : Program) (s : State) (hides : Hides c p s) (reads : R
       let done = do_op s line.op in
       ap (λ (x : ops.Done). left (Moves (record x.state {
         place = Running (record (changed_run c run)
-            { body = steps.body_from p body.callback (c.var body.name) (c.count body.call) (body.next + 1) });
+            { body = steps.body_from (script c p) body.callback (c.var body.name) (c.count body.call) (body.next + 1) });
       })
       (Some (seen.Op (site.In body.callback (c.var body.name) body.next) x.answer)))) (op_changed c p s hides reads at line.op is work time)
       ∙ ap (λ o. left (Moves (record (changed c done.state) {
         place = Running (record (changed_run c run)
-            { body = steps.body_from p body.callback (c.var body.name) (c.count body.call) (body.next + 1) });
+            { body = steps.body_from (script c p) body.callback (c.var body.name) (c.count body.call) (body.next + 1) });
       })
       (Some (seen.Op (site.In body.callback (c.var body.name) body.next) (changed_answer c done.answer o))))) (sym is)
       ∙ sees.goes done.state run body.callback body.name body.call (body.next + 1) (seen.Op at done.answer)
 
   run_alike : (run : Run) (body : Option Body) → (cancels_run p body ≡ true → Cancels c s) → (run_asks_done run body ≡ true → AreDone c s) →
       (run_reads_clock p run body ≡ true → Clocks c s) →
-      left (steps.run_step p (changed c s) (changed_run c run) (option_map (changed_body c) body)) ≡ right (steps.run_step p s run body)
+      left (steps.run_step (script c p) (changed c s) (changed_run c run) (option_map (changed_body c) body)) ≡ right (steps.run_step p s run body)
   run_alike run None work done time = stage_alike run run.stage done time
   run_alike run (Some body) work done time =
-      ap (λ x. left (steps.body_step p (changed c s) (changed_run c run) (changed_body c body) x)) (hides.lines body.callback body.name body.next)
+      ap (λ x. left (steps.body_step (script c p) (changed c s) (changed_run c run) (changed_body c body) x))
+      (hides.lines body.callback body.name body.next)
       ∙ body_alike run body (slice_get (lines_in p body.callback body.name) body.next) refl work time
 
   main_alike : (line : ℕ) (x : Option MainOp) → slice_get p.main line ≡ x → (cancels_main x ≡ true → Cancels c s) →
@@ -327,12 +325,12 @@ module _ (c : Change) (p : Program) (s : State) (hides : Hides c p s) (reads : R
 
   loop_from : (place : Place) → s.place ≡ place → (cancels_at p place ≡ true → Cancels c s) → (place_asks_done place ≡ true → AreDone c s) →
       (place_reads_clock p place ≡ true → Clocks c s) →
-      left (steps.loop_step p (changed c s) (changed_place c place)) ≡ right (steps.loop_step p s place)
+      left (steps.loop_step (script c p) (changed c s) (changed_place c place)) ≡ right (steps.loop_step p s place)
   loop_from (Main line) e work done time =
       ap (λ x. left (steps.main_step (order_of p) (changed c s) line x)) (hides.main line e) ∙ main_alike line (slice_get p.main line) refl work time
   loop_from (Running run) e work done time = run_alike run run.body work done time
 
-  pub loop_alike : left (next p (changed c s) Loop) ≡ right (next p s Loop)
+  pub loop_alike : left (next (script c p) (changed c s) Loop) ≡ right (next p s Loop)
   unfolding next
   loop_alike = loop_from s.place refl reads.cancelled reads.done reads.clocks
 
@@ -389,8 +387,8 @@ module _ (c : Change) (p : Program) (s : State) (hides : Hides c p s) (whole : I
   finish_alike k (Ok t) can is =
       let outcome = Finished (digest_of t.1.task.rounds (text_of t.1.task)) in
       let u = record s { running = slice_set s.running k None } in
-      ap (λ rs. left (Moves (ops.ended (record (changed c s) { running = rs }) (c.id t.0) (changed_request c t.1) outcome)
-      (Some (seen.Finish k (c.var t.1.name) (c.id t.0))))) (can.1 None)
+      ap₂ (λ rs came. left (Moves (ops.ended (record (changed c s) { running = rs }) (c.id t.0) (changed_request c t.1) came)
+      (Some (seen.Finish k (c.var t.1.name) (c.id t.0))))) (can.1 None) (sym (hides.work.finishes t.1.task))
       ∙ ap (λ x. left (Moves x (Some (seen.Finish k (c.var t.1.name) (c.id t.0)))))
       ((ended_changed c p s hides whole) u t.0 t.1 outcome ((request_puts c p s hides whole) t.0 t.1 (is t refl)))
       ∙ sees.stays (ops.ended u t.0 t.1 outcome) (Some (seen.Finish k t.1.name t.0))
@@ -423,10 +421,10 @@ module _ (c : Change) (p : Program) (s : State) (hides : Hides c p s) (whole : I
   time_polled_changed stage = grind arith
 
   call_io_alike : (v : Var) (r : Option Run) (x : Option Id) →
-      left (steps.call_io p (changed c s) (c.var v) (option_map (changed_run c) r) (option_map c.id x)) ≡ right (steps.call_io p s v r x)
+      left (steps.call_io (script c p) (changed c s) (c.var v) (option_map (changed_run c) r) (option_map c.id x)) ≡ right (steps.call_io p s v r x)
   call_io_alike v (Some run) (Some id) =
       ap₂ (λ time stage. left
-      (steps.calls p (record (changed c s) { time = time }) (record (changed_run c run) { stage = stage }) callback.Handle (c.var v)
+      (steps.calls (script c p) (record (changed c s) { time = time }) (record (changed_run c run) { stage = stage }) callback.Handle (c.var v)
       (seen.Io (c.var v) (c.id id)))) (time_polled_changed run.stage) (stage_polled_changed run.stage)
       ∙ sees.calls (record s { time = steps.time_polled s run.stage }) (record run { stage = steps.stage_polled s run.stage }) callback.Handle v
       (seen.Io v id) refl
@@ -434,12 +432,12 @@ module _ (c : Change) (p : Program) (s : State) (hides : Hides c p s) (whole : I
   call_io_alike v None (Some id) = sees.refuses Blocked
   call_io_alike v (Some run) None = sees.refuses Blocked
 
-  io_alike : (v : Var) → left (steps.io p (changed c s) (c.var v)) ≡ right (steps.io p s v)
+  io_alike : (v : Var) → left (steps.io (script c p) (changed c s) (c.var v)) ≡ right (steps.io p s v)
   io_alike v =
-      ap (λ b. left (if b then steps.call_io p (changed c s) (c.var v) (steps.io_run p (changed c s) (changed_place c s.place))
+      ap (λ b. left (if b then steps.call_io (script c p) (changed c s) (c.var v) (steps.io_run p (changed c s) (changed_place c s.place))
       (steps.io_handle (live_handle (changed c s) (c.var v))) else Refuses Range)) (hides.known v)
       ∙ by_test left right (nat_lt v.0 (length s.names)) _ _ _ _
-      (ap₂ (λ r x. left (steps.call_io p (changed c s) (c.var v) r x)) (io_run_changed s.place)
+      (ap₂ (λ r x. left (steps.call_io (script c p) (changed c s) (c.var v) r x)) (io_run_changed s.place)
       (ap steps.io_handle (reads.lives v) ∙ io_handle_changed (live_handle s v))
       ∙ call_io_alike v (steps.io_run p s s.place) (steps.io_handle (live_handle s v)))
       (sees.refuses Range)
@@ -452,7 +450,7 @@ module _ (c : Change) (p : Program) (s : State) (hides : Hides c p s) (whole : I
       ∙ by_test left right (nat_le (s.clock + ms) LATEST) _ _ _ _ (sees.stays (record s { clock = s.clock + ms }) (Some (seen.Tick ms)))
       (sees.refuses Range)
 
-  pub next_alike : (e : Event) → Comes c s e → left (next p (changed c s) (changed_event c e)) ≡ right (next p s e)
+  pub next_alike : (e : Event) → Comes c s e → left (next (script c p) (changed c s) (changed_event c e)) ≡ right (next p s e)
   unfolding next
   next_alike Loop can = loop_alike c p s hides reads left right sees
   next_alike (Take k) can =

@@ -1,4 +1,4 @@
--- A state that is changed: ids, slots, times, starts, names and who runs what, each by a function of its own.
+-- A state that is changed: ids, slots, times, starts, names, who runs what and what is asked for, each by a function of its own.
 use Rattle.std.specs.Prelude.{◌≡◌, ℕ, ◌+◌, List, Bool, Option, Some, None, slice_get, slice_set, nat_le}
 use Rattle.uv_ids.specs.declared.due.Due.{Due}
 use Rattle.uv_ids.specs.declared.event.Event.{Event}
@@ -19,12 +19,14 @@ use Rattle.uv_records.specs.Slots.{Slots}
 use Rattle.uv_records.specs.declared.handle.HandleRecord.{HandleRecord}
 use Rattle.uv_records.specs.declared.named.Named.{Named}
 use Rattle.uv_records.specs.declared.slot.Slot.{Slot}
-use Rattle.uv_script.specs.Program.{Program}
+use Rattle.uv_script.specs.Program.{Program, Callbacks}
 use Rattle.uv_script.specs.declared.op.CallbackLine.{CallbackLine}
 use Rattle.uv_script.specs.declared.op.MainOp.{MainOp}
 use Rattle.uv_script.specs.declared.op.Op.{Op}
 use Rattle.uv_work.specs.declared.content.Content.{Content}
+use Rattle.uv_work.specs.declared.outcome.Outcome.{Outcome}
 use Rattle.uv_work.specs.declared.request.Request.{Request}
+use Rattle.uv_work.specs.declared.task.Task.{Task}
 use Rattle.std.specs.Prelude.{map, option_map}
 use Rattle.uv_ids.specs.declared.code.Answer.{Answer}
 use Rattle.uv_ids.specs.declared.code.Answer.TheVariants as answer
@@ -39,6 +41,20 @@ use Rattle.uv_work.specs.declared.content.Content.TheVariants as content
 use Rattle.uv_model.specs.Limits.{LATEST}
 use Rattle.uv_model.specs.State.{Watchers}
 use Rattle.uv_model.specs.Next.{Next, Refuses}
+
+-- what becomes of the work that requests ask for
+pub record Work : Type 0 where
+  -- of a task, of what a request came to, and of the digest that its callback tells
+  pub task : Task → Task
+  pub outcome : Outcome → Outcome
+  pub digest : Option (List ℕ) → Option (List ℕ)
+  -- of the script's lines, which ask for it
+  pub main : List MainOp → List MainOp
+  pub callbacks : List Callbacks → List Callbacks
+
+-- it stays
+abbrev pub same : Work
+same = record { task = λ t. t; outcome = λ o. o; digest = λ d. d; main = λ ops. ops; callbacks = λ cs. cs }
 
 pub record Change : Type 0 where
   -- names and ids
@@ -61,13 +77,15 @@ pub record Change : Type 0 where
   pub waits : List Id → List Id
   pub runs : List (Option Id) → List (Option Id)
   pub ends : List Id → List Id
+  -- what requests ask for
+  pub work : Work
 
 module _ (c : Change) where
   abbrev pub changed_handle : HandleRecord → HandleRecord
   changed_handle h = record h { name = c.var h.name; due = c.due_in h.active h.kind h.due }
 
   abbrev pub changed_request : Request → Request
-  changed_request r = record r { name = c.var r.name }
+  changed_request r = record { name = c.var r.name; task = c.work.task r.task; outcome = c.work.outcome r.outcome }
 
   abbrev pub changed_content : Content → Content
   changed_content (content.Handle h) = content.Handle (changed_handle h)
@@ -136,7 +154,7 @@ module _ (c : Change) where
 
   abbrev pub changed_op : Op → Op
   changed_op (op.Init v k) = op.Init (c.var v) k
-  changed_op (op.Queue v task) = op.Queue (c.var v) task
+  changed_op (op.Queue v task) = op.Queue (c.var v) (c.work.task task)
   changed_op (op.Cancel v) = op.Cancel (c.var v)
   changed_op (op.Start v timeout repeat) = op.Start (c.var v) timeout repeat
   changed_op (op.StartWatcher v) = op.StartWatcher (c.var v)
@@ -159,6 +177,10 @@ module _ (c : Change) where
   abbrev pub changed_main : MainOp → MainOp
   changed_main (main.Op o) = main.Op (changed_op o)
   changed_main (main.Run mode) = main.Run mode
+
+  -- the script itself
+  abbrev pub changed_program : Program → Program
+  changed_program p = record p { main = c.work.main p.main; callbacks = c.work.callbacks p.callbacks }
 
   abbrev pub changed_event : Event → Event
   changed_event (Cancel v) = Cancel (c.var v)
@@ -193,7 +215,7 @@ module _ (c : Change) where
     changed_line (seen.Op at a) = seen.Op (changed_site at) (changed_answer a (op_at p at))
     changed_line (seen.Call v id) = seen.Call (c.var v) (c.id id)
     changed_line (seen.Io v id) = seen.Io (c.var v) (c.id id)
-    changed_line (seen.After digest v id) = seen.After digest (c.var v) (c.id id)
+    changed_line (seen.After digest v id) = seen.After (c.work.digest digest) (c.var v) (c.id id)
     changed_line (seen.Closed v id) = seen.Closed (c.var v) (c.id id)
     changed_line (seen.Take worker v id) = seen.Take worker (c.var v) (c.id id)
     changed_line (seen.Finish worker v id) = seen.Finish worker (c.var v) (c.id id)

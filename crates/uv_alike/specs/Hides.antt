@@ -30,7 +30,21 @@ use Rattle.uv_records.specs.Names as names
 use Rattle.uv_model.specs.Content.{content_keeps, content_pends, is_used}
 use Rattle.uv_model.specs.Next as steps
 use Rattle.uv_model.specs.Next.{Next, Refuses}
-use Rattle.uv_alike.specs.Changed.{Change, changed_content, changed_arena, changed_body, changed_run, changed, changed_live, changed_callback, changed_main, changed_line}
+use Rattle.uv_work.specs.Digests.{digest_of}
+use Rattle.uv_work.specs.Requests.{digest_in}
+use Rattle.uv_work.specs.Tasks.{text_of}
+use Rattle.uv_work.specs.declared.outcome.Outcome.{Outcome}
+use Rattle.uv_work.specs.declared.outcome.Outcome.TheVariants.{Open, Finished, Cancelled}
+use Rattle.uv_work.specs.declared.task.Task.{Task}
+use Rattle.uv_alike.specs.Changed.{Work, Change, changed_content, changed_arena, changed_body, changed_run, changed, changed_live, changed_callback, changed_main, changed_line, changed_program}
+
+-- what becomes of a request is that of what it asks for
+pub record IsWork (w : Work) : Type 0 where
+  pub opens : w.outcome Open ≡ Open
+  pub cancels : w.outcome Cancelled ≡ Cancelled
+  pub finishes : (t : Task) → w.outcome (Finished (digest_of t.rounds (text_of t)))
+      ≡ Finished (digest_of (w.task t).rounds (text_of (w.task t)))
+  pub tells : (o : Outcome) → digest_in (w.outcome o) ≡ w.digest (digest_in o)
 
 module _ (c : Change) (p : Program) where
   -- what each step of a state may read and write
@@ -69,8 +83,11 @@ module _ (c : Change) (p : Program) where
         ≡ c.names (slice_set s.names v.0 (record (names.named s.names v.0) { id = Some x }))
     -- the script
     pub lines : (kind : Callback) (v : Var) (n : ℕ)
-        → slice_get (lines_in p kind (c.var v)) n ≡ option_map (changed_callback c) (slice_get (lines_in p kind v) n)
-    pub main : (line : ℕ) → s.place ≡ Main line → slice_get p.main line ≡ option_map (changed_main c) (slice_get p.main line)
+        → slice_get (lines_in (changed_program c p) kind (c.var v)) n ≡ option_map (changed_callback c) (slice_get (lines_in p kind v) n)
+    pub main : (line : ℕ) → s.place ≡ Main line
+        → slice_get (changed_program c p).main line ≡ option_map (changed_main c) (slice_get p.main line)
+    -- what requests ask for
+    pub work : IsWork c.work
 
   -- the change is whole: what stands under an id, who waits, who is done and the clock are changed alike, so no step can tell, whatever it asks
   pub record IsWhole (s : State) : Type 0 where
@@ -92,13 +109,13 @@ module _ (c : Change) (p : Program) where
     pub stays : (u : State) (line : Option Seen) → left (Moves ((changed c) u) (option_map (changed_line c p) line)) ≡ right (Moves u line)
     -- a callback begins, in a state with the names of this one
     pub calls : (u : State) (run : Run) (kind : Callback) (v : Var) (line : Seen) → u.names ≡ s.names
-        → left (steps.calls p ((changed c) u) ((changed_run c) run) kind (c.var v) ((changed_line c p) line))
+        → left (steps.calls (changed_program c p) ((changed c) u) ((changed_run c) run) kind (c.var v) ((changed_line c p) line))
         ≡ right (steps.calls p u run kind v line)
     -- the body of a call goes on
     pub goes : (u : State) (run : Run) (kind : Callback) (v : Var) (call number : ℕ) (line : Seen)
         → left (Moves (record ((changed c) u) {
           place =
-              Running (record ((changed_run c) run) { body = steps.body_from p kind (c.var v) (c.count call) number });
+              Running (record ((changed_run c) run) { body = steps.body_from (changed_program c p) kind (c.var v) (c.count call) number });
         })
         (Some ((changed_line c p) line)))
         ≡ right (Moves (record u { place = Running (record run { body = steps.body_from p kind v call number }) }) (Some line))
@@ -111,6 +128,6 @@ pub record IsExact (c : Change) (p : Program) (s : State) : Type 0 where
   pub set : (u : State) (v : Var) (x : Named) → u.names ≡ s.names
       → with_named (changed c u) (c.var v) (record x { id = bound x.id }) ≡ changed c (with_named u v x)
   -- the lines of its callbacks
-  pub body : (kind : Callback) (v : Var) (call n : ℕ) → steps.body_from p kind (c.var v) call n
+  pub body : (kind : Callback) (v : Var) (call n : ℕ) → steps.body_from (changed_program c p) kind (c.var v) call n
       ≡ option_map (changed_body c) (steps.body_from p kind v call n)
   pub count : (n : ℕ) → c.count n ≡ n

@@ -7,11 +7,6 @@ pub by_found : {A B D : Type 0} (to : B → D) (o : Option A) {f : A → B} {f' 
 by_found to None h k = k
 by_found to (Some x) h k = h x refl
 
--- where the same is found
-pub found_same : {A B D : Type 0} (to : B → D) {o o' : Option A} {f : A → B} {f' : A → D} {other : B} {other' : D} → o' ≡ o →
-    ((x : A) → o ≡ Some x → f' x ≡ to (f x)) → other' ≡ to other → found_or o' f' other' ≡ to (found_or o f other)
-found_same to {o = o} {f' = f'} {other' = other'} same h k = ap (λ x. found_or x f' other') same ∙ by_found to o h k
-
 pub by_test : {B D : Type 0} (to : B → D) (b : Bool) {x y : B} {x' y' : D} → x' ≡ to x → y' ≡ to y →
     (if b then x' else y') ≡ to (if b then x else y)
 by_test to true h k = h

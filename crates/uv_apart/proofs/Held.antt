@@ -129,12 +129,10 @@ seen_same : (slots : List (Slot Content)) (id i : Id) (r q : Request) → slice_
 seen_same slots id i r q e = by (i.slot == id.slot) refl where
   one : (b : Bool) → (id.generation == i.generation) ≡ b →
       seen_in (if b then Some (content.Request q) else None) ≡ seen_in (if b then Some (content.Request r) else None)
-  one true f = refl
-  one false f = refl
+  one b f = grind arith
 
   by : (b : Bool) → (i.slot == id.slot) ≡ b → seen_in (held (slice_set slots id.slot (asked id q)) i) ≡ seen_in (held slots i)
-  by false f = ap (λ (o : Option (Slot Content)). seen_in (elim o [ Some slot ↦ held_in i slot | None ↦ None ]))
-      (get_set_other slots id.slot i.slot (asked id q) (λ g. cc (f, eq-eqb i.slot id.slot g)))
+  by false f = grind (arith, get_set_other, eq-eqb)
   by true f = grind (arith, eqb-true, get_set_same)
 
 module _ (clock : ℕ → ℕ) (waiting : List Id → List Id) (running : List (Option Id) → List (Option Id)) (done : List Id → List Id)

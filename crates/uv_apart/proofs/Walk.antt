@@ -25,11 +25,11 @@ use Rattle.uv_model.specs.Ops.{cancel}
 use Rattle.uv_model.specs.Next.{Next, Moves, Refuses, next}
 use Rattle.uv_alike.specs.Asks.{cancels, place_asks_done, run_asks_done, reads_clock}
 use Rattle.uv_alike.specs.Changed as whole
-use Rattle.uv_alike.specs.Changed.{changed_answer, changed_content, changed_line, changed_place}
+use Rattle.uv_alike.specs.Changed.{same, changed_answer, changed_content, changed_line, changed_place}
 use Rattle.uv_alike.specs.Hides.{IsExact, Hides as HidesChange}
 use Rattle.uv_alike.proofs.Exact.{loop_exact}
 use Rattle.uv_alike.proofs.Ops.{Reads, Cancels, found_handle}
-use Rattle.uv_alike.proofs.Same.{option_same, lines_same, main_same, lists_same, stage_same}
+use Rattle.uv_alike.proofs.Same.{work_same, option_same, lines_same, main_same, lists_same, stage_same}
 use Rattle.uv_apart.specs.Apart.{is_apart, is_apart_at, is_apart_run}
 use Rattle.uv_apart.proofs.Cases.{by_test}
 use Rattle.uv_apart.proofs.Changed.{Change, changed, changed_arena, Leaves, Hides, SameDone, SameWork, seen_in, handle_changed, live_handle_changed, next_free_changed, taken_changed, cancel_changed}
@@ -55,18 +55,12 @@ as_change c = record {
   waits = c.waiting;
   runs = c.running;
   ends = c.done;
+  work = same;
 }
 
 -- where who is done is asked, the step isn't apart
 asks_no_done : (p : Program) (place : Place) → place_asks_done place ≡ true → is_apart_at p place ≡ false
-asks_no_done p (Running run) e = by run.body run.stage e where
-  by : (body : Option Body) (stage : Stage) → run_asks_done (record run { stage = stage }) body ≡ true →
-      is_apart_run p (record run { stage = stage }) body ≡ false
-  by None (Poll deadline) e = refl
-  by None (Polled true) e = refl
-  by None stage e = cc e
-  by (Some body) stage e = cc e
-asks_no_done p (Main line) e = cc e
+asks_no_done p place e = grind arith
 
 live_seen : (id : Id) (o o' : Option Content) → seen_in o' ≡ seen_in o → is_some (with_id id o') ≡ is_some (with_id id o)
 live_seen id o o' e = grind arith
@@ -116,8 +110,9 @@ module _ (p : Program) (c : Change) where
       waits = λ n. refl;
       known = λ v. refl;
       binds = λ v x e. refl;
-      lines = λ kind v n. lines_same (as_change c) (λ v. refl) _;
-      main = λ line e. main_same (as_change c) (λ v. refl) _;
+      lines = λ kind v n. lines_same (as_change c) (λ v. refl) (λ t. refl) _;
+      main = λ line e. main_same (as_change c) (λ v. refl) (λ t. refl) _;
+      work = work_same;
     }
 
     exact : IsExact (as_change c) p s

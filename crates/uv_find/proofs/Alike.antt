@@ -1,6 +1,5 @@
--- Places with the same form by their names, and as much left and kept, go on alike.
+-- Places of whose states the same is told, with as much left and kept, go on alike.
 use Rattle.std.proofs.Common.{◌≡◌, ℕ, ◌+◌, ◌-◌, ◌<◌, ◌≤◌, ◌&&◌, not, Bool, true, false, List, [], ◌∷◌, ◌++◌, length, Option, Some, None, inl, inr, nat_le, nat_lt, refl, ap, ap₂, sym, subst, ◌∙◌, arith, if◌then◌else◌}
-use Rattle.std.specs.Prelude.{option_map}
 use Rattle.std.proofs.lemmas.Bool.{ltb-true}
 use Rattle.uv_ids.specs.declared.event.Event.{Event}
 use Rattle.uv_ids.specs.declared.event.Event.TheVariants.{Loop, Take, Finish, Cancel, Send, Io, Tick}
@@ -9,7 +8,6 @@ use Rattle.uv_ids.specs.declared.id.Var.{Var}
 use Rattle.uv_ids.specs.declared.seen.Callback.{Callback}
 use Rattle.uv_ids.specs.declared.seen.Callback.TheVariants as callback
 use Rattle.uv_ids.specs.declared.seen.Seen.{Seen}
-use Rattle.uv_ids.specs.declared.seen.Seen.TheVariants as seen
 use Rattle.uv_records.specs.Slots.{held}
 use Rattle.uv_work.specs.declared.content.Content.{Content}
 use Rattle.uv_work.specs.declared.content.Content.TheVariants as content
@@ -21,14 +19,14 @@ use Rattle.uv_model.specs.State.{State, named}
 use Rattle.uv_shift.specs.Shift.{ClockFits, IsShort}
 use Rattle.uv_shift.proofs.Reached.{after_timed}
 use Rattle.uv_generations.proofs.Reached.{after_young}
-use Rattle.uv_normal.specs.Normal.{calls_timer}
-use Rattle.uv_workers.specs.Workers.{is_of_worker, line_by, next_by}
+use Rattle.uv_tale.specs.Alike.{told_line, IsRegular, LeadsRegular, StepsAlike, NextAlike}
+use Rattle.uv_workers.specs.Workers.{is_of_worker, next_by}
 use Rattle.uv_slots.specs.NamedForm.{AreDeclared}
 use Rattle.uv_slots.proofs.Keeping.{after_can}
 use Rattle.uv_slots.proofs.Reached.{after_tidy}
-use Rattle.uv_by_name.specs.ByName.{by_name, IsRegular, NextByName}
-use Rattle.uv_by_name.proofs.Steps as laws
-use Rattle.uv_by_name.proofs.Reading.{Reads, reads_alike}
+use Rattle.uv_tale.specs.Tale.{tale}
+use Rattle.uv_tale.proofs.Steps as laws
+use Rattle.uv_tale.proofs.Reading.{Reads, reads_alike}
 use Rattle.uv_asking.specs.declared.asking.Most.{Most}
 use Rattle.uv_asking.specs.declared.asking.Offer.{Offer}
 use Rattle.uv_asking.specs.declared.asking.Offer.TheVariants as offers
@@ -48,7 +46,7 @@ use Rattle.uv_find.specs.Orders.{event_of, timed, is_brief, brief, may_take, off
 use Rattle.uv_find.specs.Spots.{Spot, CanForget, IsSpot, AreBrief, is_few}
 use Rattle.uv_find.proofs.Clocks.{after_clock}
 use Rattle.uv_find.proofs.Led.{length_more, state_behind}
-use Rattle.uv_find.proofs.Lines.{LinesAlike, told_alike, worker_alike}
+use Rattle.uv_find.proofs.Lines.{plain_line}
 use Rattle.uv_find.proofs.Runners.{EventsAlike, OffersAlike, finishes_alike, takes_alike}
 use Rattle.uv_find.proofs.Readings.{is_bound, reads_bound, is_shut, reads_shut, count, reads_count, within_capped, reads_quiet, reads_timers, until, wait_of, reads_wait, reads_in_poll, Waits, lag_by, lag_of, lag_under, lag, reads_lag}
 use Rattle.uv_find.proofs.Readings as readings
@@ -59,7 +57,7 @@ DueAlike (asks.Late name ms) clock due other_clock other_due = clock + other_due
 DueAlike question clock due other_clock other_due = due ≡ other_due
 
 pub record AreAlike (r : Rules) (n : ℕ) (p q : Place) : Type 0 where
-  pub state : by_name r.program n p.state ≡ by_name r.program n q.state
+  pub state : tale n p.state ≡ tale n q.state
   pub left : p.left ≡ q.left
   pub owed : p.kept.owed ≡ q.kept.owed
   pub along : p.kept.along ≡ q.kept.along
@@ -67,53 +65,19 @@ pub record AreAlike (r : Rules) (n : ℕ) (p q : Place) : Type 0 where
 
 -- ---- steps that are alike
 
--- two steps, from s and t, led to these states with these lines
-pub record GoesAlike (p : Program) (n : ℕ) (s t a b : State) (line other : Option Seen) : Type 0 where
-  pub same : by_name p n a ≡ by_name p n b
-  pub lines : LinesAlike p line other
-  -- the clock goes on by as much
-  pub clocks : a.clock + t.clock ≡ b.clock + s.clock
-  pub timers : calls_timer a line ≡ calls_timer b other
+-- they lead to states of which the same is told, with lines that are the same except for what no question asks for
+abbrev pub GoesAlike : Program → ℕ → State → State → State → State → Option Seen → Option Seen → Type 0
+GoesAlike p n s t a b line other = StepsAlike (tale n) (plain_line p) s t a b line other
 
--- both are refused, or both are taken
 abbrev pub NextGoes : Program → ℕ → State → State → Next → Next → Type 0
-NextGoes p n s t (Moves a line) (Moves b other) = GoesAlike p n s t a b line other
-NextGoes p n s t (Refuses why) (Refuses other) = why ≡ other
-NextGoes p n s t x y = ⊥
+NextGoes p n s t x y = NextAlike (tale n) (plain_line p) s t x y
 
--- whose worker's line it is says nothing of timers
-timer_by : (k : ℕ) (s : State) (line : Option Seen) → calls_timer s (option_map (line_by k) line) ≡ calls_timer s line
-timer_by k s None = refl
-timer_by k s (Some (seen.Take worker v id)) = refl
-timer_by k s (Some (seen.Finish worker v id)) = refl
-timer_by k s (Some l) = refl
+others_go : (p : Program) (n : ℕ) (s t : State) (x y : Next) → NextAlike (tale n) (told_line p) s t x y → NextGoes p n s t x y
+others_go p n s t each e5 h = grind arith
 
--- what a step leads to is regular
-abbrev pub GoesRegular : Program → Next → Type 0
-GoesRegular p (Moves a line) = IsRegular p a
-GoesRegular p (Refuses why) = Unit {0}
-
-others_go : (p : Program) (n : ℕ) (s t : State) (x y : Next) → GoesRegular p x → GoesRegular p y → NextByName p n s t x y → NextGoes p n s t x y
-others_go p n s t (Moves a line) (Moves b other) one two k =
-    let h = k one two in
-    record { same = h.same; lines = told_alike p line other h.same_line; clocks = h.clocks; timers = h.timers }
-others_go p n s t (Refuses why) (Refuses other) one two h = h
-others_go p n s t (Moves a line) (Refuses other) one two h = absurd h
-others_go p n s t (Refuses why) (Moves b other) one two h = absurd h
-
-worker_goes : (p : Program) (n : ℕ) (s t : State) (k : ℕ) (x y : Next) → GoesRegular p x → GoesRegular p y → NextByName p n s t (next_by k x) y
+worker_goes : (p : Program) (n : ℕ) (s t : State) (k : ℕ) (x y : Next) → NextAlike (tale n) (told_line p) s t (next_by k x) y
     → NextGoes p n s t x y
-worker_goes p n s t k (Moves a line) (Moves b other) one two g =
-    let h = g one two in
-    record {
-      same = h.same;
-      lines = worker_alike p k line other h.same_line;
-      clocks = h.clocks;
-      timers = sym (timer_by k a line) ∙ h.timers;
-    }
-worker_goes p n s t k (Refuses why) (Refuses other) one two h = h
-worker_goes p n s t k (Moves a line) (Refuses other) one two h = absurd h
-worker_goes p n s t k (Refuses why) (Moves b other) one two h = absurd h
+worker_goes p n s t k each e6 h = grind arith
 
 -- ---- what holds of each spot
 
@@ -121,7 +85,7 @@ worker_goes p n s t k (Refuses why) (Moves b other) one two h = absurd h
 pub record IsGoing (p : Program) (n : ℕ) (q : Place) : Type 0 where
   pub regular : IsRegular p q.state
   pub fits : (e : Event) → is_brief (Some n) e ≡ true → ClockFits q.state e
-  pub leads : (e : Event) → GoesRegular p (next p q.state e)
+  pub leads : (e : Event) → LeadsRegular p (next p q.state e)
 
 pub are_regular : (p : Program) (es : List Event) → AreDeclared p → IsShort LONG p → LONGEST < (arena_size p).last_generation → length es ≤ LONGEST
     → IsRegular p (after p es)
@@ -165,9 +129,9 @@ module _ (r : Rules) (n : ℕ) (forget : r.forget ≡ Some n) (can : CanForget r
   spot_fits s (Io v) is short = tt
 
   -- a step from a place leads to what is regular
-  leads_regular : (w : Spot) → IsSpot r w → (e : Event) → GoesRegular r.program (next r.program w.place.state e)
+  leads_regular : (w : Spot) → IsSpot r w → (e : Event) → LeadsRegular r.program (next r.program w.place.state e)
   leads_regular w is e = by (next r.program w.place.state e) refl where
-    by : (x : Next) → next r.program w.place.state e ≡ x → GoesRegular r.program x
+    by : (x : Next) → next r.program w.place.state e ≡ x → LeadsRegular r.program x
     by (Refuses why) goes = tt
     by (Moves u line) goes =
         let few = few_steps w is in
@@ -179,7 +143,7 @@ module _ (r : Rules) (n : ℕ) (forget : r.forget ≡ Some n) (can : CanForget r
 
   -- ---- what is read
 
-  module _ (a b : State) (ra : IsRegular r.program a) (rb : IsRegular r.program b) (same : by_name r.program n a ≡ by_name r.program n b) where
+  module _ (a b : State) (ra : IsRegular r.program a) (rb : IsRegular r.program b) (same : tale n a ≡ tale n b) where
     pub both : {X : Type 0} (R : State → X) → Reads n R → R a ≡ R b
     both R reads = reads_alike n R r.program reads a b ra rb same
 
@@ -284,30 +248,31 @@ module _ (r : Rules) (n : ℕ) (forget : r.forget ≡ Some n) (can : CanForget r
     blocked_by (Refuses why) (Moves v other) h = absurd h
 
     -- events that do alike lead on alike
-    pub goes_alike : (e f : Event) → EventsAlike r.program n a b e f → is_brief (Some n) e ≡ true
+    pub goes_alike : (e f : Event) → EventsAlike a b e f → is_brief (Some n) e ≡ true
         → NextGoes r.program n a b (next r.program a e) (next r.program b f)
     goes_alike e f (inl h) short =
         let ra = hs.regular in
         let rb = ht.regular in
         subst (λ g. NextGoes r.program n a b (next r.program a e) (next r.program b g)) h.0
-        (others_go r.program n a b (next r.program a e) (next r.program b e) (hs.leads e) (ht.leads e)
-        (laws.others_alike r.program n a b can.before ra rb alike.state e h.1 (hs.fits e short) (ht.fits e short)))
+        (others_go r.program n a b (next r.program a e) (next r.program b e)
+        (laws.others_alike r.program n a b can.before ra rb alike.state e h.1 (hs.fits e short) (ht.fits e short) (hs.leads e)
+        (ht.leads e)))
     goes_alike e f (inr (inl h)) short =
         let ra = hs.regular in
         let rb = ht.regular in
         subst (λ x. NextGoes r.program n a b (next r.program a x) (next r.program b f)) (sym h.one)
         (subst (λ y. NextGoes r.program n a b (next r.program a (Take h.worker)) (next r.program b y)) (sym h.two)
         (worker_goes r.program n a b h.other (next r.program a (Take h.worker)) (next r.program b (Take h.other))
-        (hs.leads (Take h.worker)) (ht.leads (Take h.other))
-        (laws.takes_alike r.program n a b can.before ra rb alike.state h.worker h.other h.same)))
+        (laws.takes_alike r.program n a b can.before ra rb alike.state h.worker h.other h.same (hs.leads (Take h.worker))
+        (ht.leads (Take h.other)))))
     goes_alike e f (inr (inr h)) short =
         let ra = hs.regular in
         let rb = ht.regular in
         subst (λ x. NextGoes r.program n a b (next r.program a x) (next r.program b f)) (sym h.one)
         (subst (λ y. NextGoes r.program n a b (next r.program a (Finish h.worker)) (next r.program b y)) (sym h.two)
         (worker_goes r.program n a b h.other (next r.program a (Finish h.worker)) (next r.program b (Finish h.other))
-        (hs.leads (Finish h.worker)) (ht.leads (Finish h.other))
-        (laws.finishes_alike r.program n a b can.before ra rb alike.state h.worker h.other h.same)))
+        (laws.finishes_alike r.program n a b can.before ra rb alike.state h.worker h.other h.same (hs.leads (Finish h.worker))
+        (ht.leads (Finish h.other)))))
 
     pub blocked_alike : is_blocked r.program a ≡ is_blocked r.program b
     blocked_alike = blocked_by (next r.program a Loop) (next r.program b Loop) (goes_alike Loop Loop (inl (refl, refl)) refl)
@@ -370,14 +335,14 @@ module _ (r : Rules) (n : ℕ) (forget : r.forget ≡ Some n) (can : CanForget r
 
     -- ---- ranks
 
-    takes_both : OffersAlike r.program n a b (take_by (idle_worker a)) (take_by (idle_worker b))
+    takes_both : OffersAlike a b (take_by (idle_worker a)) (take_by (idle_worker b))
     takes_both = takes_alike n r.program a b hs.regular ht.regular alike.state
 
     take_same : (u : State) (o : Option ℕ) → ranked (Some n) u (take_by o) ≡ take_by o
     take_same u None = refl
     take_same u (Some worker) = refl
 
-    same_event : (x : Event) → is_of_worker x ≡ false → OffersAlike r.program n a b (by_rank a x) (by_rank b x)
+    same_event : (x : Event) → is_of_worker x ≡ false → OffersAlike a b (by_rank a x) (by_rank b x)
     same_event Loop other = inl (refl, refl)
     same_event (Take worker) other = absurd (let g : true ≡ false = other in cc)
     same_event (Finish rank) other = absurd (let g : true ≡ false = other in cc)
@@ -399,18 +364,18 @@ module _ (r : Rules) (n : ℕ) (forget : r.forget ≡ Some n) (can : CanForget r
     spends (Tick ms) other = refl
 
     other_step : (e : Event) → is_of_worker e ≡ false
-        → OffersAlike r.program n a b (ranked (Some n) a (step_of a k e)) (ranked (Some n) b (step_of b l e))
+        → OffersAlike a b (ranked (Some n) a (step_of a k e)) (ranked (Some n) b (step_of b l e))
     other_step e other =
-        subst (λ o. OffersAlike r.program n a b (ranked (Some n) a (step_of a k e)) (ranked (Some n) b o)) (step_alike e)
+        subst (λ o. OffersAlike a b (ranked (Some n) a (step_of a k e)) (ranked (Some n) b o)) (step_alike e)
         (by (is_made a (aim e) && is_free a k e))
       where
-        by : (may : Bool) → OffersAlike r.program n a b (ranked (Some n) a (if may then Some (spending k e) else None))
+        by : (may : Bool) → OffersAlike a b (ranked (Some n) a (if may then Some (spending k e) else None))
             (ranked (Some n) b (if may then Some (spending k e) else None))
         by true = same_event (spending k e) (spends e other)
         by false = tt
 
     stepped : (e : Event) → is_common (offers.Step e) ≡ true
-        → OffersAlike r.program n a b (ranked (Some n) a (step_of a k e)) (ranked (Some n) b (step_of b l e))
+        → OffersAlike a b (ranked (Some n) a (step_of a k e)) (ranked (Some n) b (step_of b l e))
     stepped (Finish rank) h = finishes_alike n r.program a b hs.regular ht.regular alike.state rank
     stepped (Take worker) h = absurd (let g : false ≡ true = h in cc)
     stepped Loop h = other_step Loop refl
@@ -420,29 +385,29 @@ module _ (r : Rules) (n : ℕ) (forget : r.forget ≡ Some n) (can : CanForget r
     stepped (Tick ms) h = other_step (Tick ms) refl
 
     waited : (blocked : Bool) (ms : Option ℕ)
-        → OffersAlike r.program n a b (ranked (Some n) a (waits blocked ms)) (ranked (Some n) b (waits blocked ms))
+        → OffersAlike a b (ranked (Some n) a (waits blocked ms)) (ranked (Some n) b (waits blocked ms))
     waited blocked None = tt
     waited true (Some ms) = inl (refl, refl)
     waited false (Some ms) = tt
 
     event_alike : (offer : Offer) → is_common offer ≡ true →
-        OffersAlike r.program n a b (ranked (Some n) a (event_of r.program a k offer)) (ranked (Some n) b (event_of r.program b l offer))
+        OffersAlike a b (ranked (Some n) a (event_of r.program a k offer)) (ranked (Some n) b (event_of r.program b l offer))
     event_alike (offers.Step e) h = stepped e h
     event_alike (offers.SendDuring v job) h = absurd (let g : false ≡ true = h in cc)
     event_alike offers.Take h =
-        subst (λ x. OffersAlike r.program n a b x (ranked (Some n) b (take_by (idle_worker b)))) (sym (take_same a (idle_worker a)))
-        (subst (λ y. OffersAlike r.program n a b (take_by (idle_worker a)) y) (sym (take_same b (idle_worker b))) takes_both)
+        subst (λ x. OffersAlike a b x (ranked (Some n) b (take_by (idle_worker b)))) (sym (take_same a (idle_worker a)))
+        (subst (λ y. OffersAlike a b (take_by (idle_worker a)) y) (sym (take_same b (idle_worker b))) takes_both)
     event_alike offers.Wait h =
         let here = waits_is a (deadline_at a.place) in
         let wait = waits (is_blocked r.program a) (until a.clock (deadline_at a.place)) in
-        subst (λ x. OffersAlike r.program n a b (ranked (Some n) a x) (ranked (Some n) b (wait_until r.program b (deadline_at b.place)))) (sym here)
-        (subst (λ y. OffersAlike r.program n a b (ranked (Some n) a wait) (ranked (Some n) b y))
+        subst (λ x. OffersAlike a b (ranked (Some n) a x) (ranked (Some n) b (wait_until r.program b (deadline_at b.place)))) (sym here)
+        (subst (λ y. OffersAlike a b (ranked (Some n) a wait) (ranked (Some n) b y))
         (sym here ∙ wait_alike) (waited (is_blocked r.program a) (until a.clock (deadline_at a.place))))
     event_alike (offers.WaitFor ms) h =
-        subst (λ y. OffersAlike r.program n a b (ranked (Some n) a (wait_for r.program a ms)) (ranked (Some n) b y)) (wait_for_alike ms)
+        subst (λ y. OffersAlike a b (ranked (Some n) a (wait_for r.program a ms)) (ranked (Some n) b y)) (wait_for_alike ms)
         (by (may_last a ms) (is_blocked r.program a))
       where
-        by : (x y : Bool) → OffersAlike r.program n a b (ranked (Some n) a (if x then (if y then Some (Tick ms) else None) else None))
+        by : (x y : Bool) → OffersAlike a b (ranked (Some n) a (if x then (if y then Some (Tick ms) else None) else None))
             (ranked (Some n) b (if x then (if y then Some (Tick ms) else None) else None))
         by true true = inl (refl, refl)
         by true false = tt
@@ -450,17 +415,17 @@ module _ (r : Rules) (n : ℕ) (forget : r.forget ≡ Some n) (can : CanForget r
 
     -- ---- within the bounds
 
-    brief_is : (e f : Event) → EventsAlike r.program n a b e f → is_brief (Some n) e ≡ is_brief (Some n) f
+    brief_is : (e f : Event) → EventsAlike a b e f → is_brief (Some n) e ≡ is_brief (Some n) f
     brief_is e f (inl h) = ap (is_brief (Some n)) h.0
     brief_is e f (inr (inl h)) = ap (is_brief (Some n)) h.one ∙ sym (ap (is_brief (Some n)) h.two)
     brief_is e f (inr (inr h)) = ap (is_brief (Some n)) h.one ∙ sym (ap (is_brief (Some n)) h.two)
 
-    brief_alike : (x y : Option Event) → OffersAlike r.program n a b x y → OffersAlike r.program n a b (brief (Some n) x) (brief (Some n) y)
+    brief_alike : (x y : Option Event) → OffersAlike a b x y → OffersAlike a b (brief (Some n) x) (brief (Some n) y)
     brief_alike None None h = tt
     brief_alike None (Some f) h = absurd h
     brief_alike (Some e) None h = absurd h
     brief_alike (Some e) (Some f) h = by (is_brief (Some n) e) (is_brief (Some n) f) (brief_is e f h) where
-      by : (p q : Bool) → p ≡ q → OffersAlike r.program n a b (if p then Some e else None) (if q then Some f else None)
+      by : (p q : Bool) → p ≡ q → OffersAlike a b (if p then Some e else None) (if q then Some f else None)
       by true true same = h
       by false false same = tt
       by true false same = absurd cc
@@ -471,22 +436,22 @@ module _ (r : Rules) (n : ℕ) (forget : r.forget ≡ Some n) (can : CanForget r
     unbounded clock (Some e) = refl
 
     pub offered_alike : (offered : Option Offered) (x : Option Left) → ((o : Offered) → offered ≡ Some o → is_common o.offer ≡ true) →
-        OffersAlike r.program n a b (offered_by r s offered x) (offered_by r t offered x)
+        OffersAlike a b (offered_by r s offered x) (offered_by r t offered x)
     offered_alike None x common = tt
     offered_alike (Some o) None common = tt
     offered_alike (Some o) (Some x) common =
         let here = event_of r.program a k o.offer in
         let there = event_of r.program b l o.offer in
         let one = λ (u : State) (e : Option Event). sym (ap (λ m. timed m u.clock e) can.clock ∙ unbounded u.clock e) in
-        subst (λ g. OffersAlike r.program n a b (brief g (ranked g a (offered_here r.program r.clock a k o.offer x)))
+        subst (λ g. OffersAlike a b (brief g (ranked g a (offered_here r.program r.clock a k o.offer x)))
         (brief g (ranked g b (offered_here r.program r.clock b l o.offer x)))) (sym forget)
-        (subst (λ u. OffersAlike r.program n a b (brief (Some n) (ranked (Some n) a (if may_take x then u else None)))
+        (subst (λ u. OffersAlike a b (brief (Some n) (ranked (Some n) a (if may_take x then u else None)))
         (brief (Some n) (ranked (Some n) b (offered_here r.program r.clock b l o.offer x)))) (one a here)
-        (subst (λ v. OffersAlike r.program n a b (brief (Some n) (ranked (Some n) a (if may_take x then here else None)))
+        (subst (λ v. OffersAlike a b (brief (Some n) (ranked (Some n) a (if may_take x then here else None)))
         (brief (Some n) (ranked (Some n) b (if may_take x then v else None)))) (one b there)
         (by (may_take x))))
       where
-        by : (may : Bool) → OffersAlike r.program n a b (brief (Some n) (ranked (Some n) a (if may then event_of r.program a k o.offer else None)))
+        by : (may : Bool) → OffersAlike a b (brief (Some n) (ranked (Some n) a (if may then event_of r.program a k o.offer else None)))
             (brief (Some n) (ranked (Some n) b (if may then event_of r.program b l o.offer else None)))
         by true = brief_alike (ranked (Some n) a (event_of r.program a k o.offer)) (ranked (Some n) b (event_of r.program b l o.offer))
             (event_alike o.offer (common o refl))

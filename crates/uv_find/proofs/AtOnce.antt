@@ -34,7 +34,7 @@ use Rattle.uv_find.specs.Kept.{kept_after, owes}
 use Rattle.uv_find.specs.Orders.{Rules, Place, Led, led, closes, is_blocked, is_made, is_quiet, is_seen, refused_as_blocked, deadline_at, wait_until, take_by, event_of, offered_by, timed, brief, is_brief, at_will, may_take, taken, is_within, less, lessened, move_count, move_count_by, may_last, ends_within, is_in_poll}
 use Rattle.uv_find.specs.Ranks.{idle_worker, rank_of, runner, finish_by, ranked}
 use Rattle.uv_find.specs.Questions.{answers, line_answers, place_answers, none_leads, is_uncalled, has_ended}
-use Rattle.uv_find.specs.Spots.{Spot, CanForget, CanTakeAtOnce, next_spot, spot_of, spot_code, apart, is_loop_first, is_take_first, is_few, IsSpot, HasRoom}
+use Rattle.uv_find.specs.Spots.{Spot, AreOfPool, CanForget, CanTakeAtOnce, next_spot, spot_of, spot_code, apart, is_loop_first, is_take_first, is_few, IsSpot, HasRoom}
 use Rattle.uv_find.proofs.Led.{event_at, led_leads, leads_spot, state_behind, brief_more, length_more}
 use Rattle.uv_find.proofs.Alike.{AreAlike, DueAlike}
 use Rattle.uv_find.proofs.Covering.{led_take, takes_cover}
@@ -45,7 +45,7 @@ use Rattle.uv_find.proofs.Runners.{run_at, after_long, rank_below}
 use Rattle.uv_find.proofs.Finishing.{at_will_kept, its_rank}
 use Rattle.uv_find.proofs.Cancelling.{none_cancels}
 use Rattle.uv_find.proofs.Offers.{or_last}
-use Rattle.uv_find.proofs.Apart.{is_outside, outside_mute, line_same, within_same, kept_outside, kept_same, still_idle, will_is, at_will_stays, others_stay}
+use Rattle.uv_find.proofs.Apart.{is_outside, outside_mute, line_same, within_same, kept_outside, kept_same, still_idle, at_will_stays, others_stay}
 
 -- ---- what is left
 
@@ -55,21 +55,13 @@ none_less m = grind (arith, nat_tests)
 one_less : (n m : ℕ) → nat_le (suc n) (suc m) ≡ nat_le n m
 one_less n m = grind (arith, nat_tests)
 
-one_more : (n : ℕ) → nat_le (suc n) 0 ≡ false
-one_more n = grind (arith, nat_tests)
-
 -- each of the first offers may be taken at will
 pub will_of : (n : ℕ) (xs : List Left) (i : ℕ) → are_at_will n xs ≡ true → i < n → slice_get xs i ≡ Some left.AtWill
-will_of zero xs i all below = absurd (omega (arith, below))
-will_of (suc n) [] i all below =
-    let f : false ≡ true = sym (one_more n) ∙ (and_parts (nat_le (suc n) 0) true all).0 in absurd (let g : ⊥ = cc in g)
-will_of (suc n) (x ∷ xs) zero all below =
-    let parts = and_parts (nat_le (suc n) (suc (length xs))) _ all in
-    will_is (Some x) (and_parts (is_at_will (Some x)) (are_all_at_will (take n xs)) parts.1).0
 will_of (suc n) (x ∷ xs) (suc i) all below =
     let parts = and_parts (nat_le (suc n) (suc (length xs))) _ all in
     let rest = (and_parts (is_at_will (Some x)) (are_all_at_will (take n xs)) parts.1).1 in
     will_of n xs i (ap₂ (λ a b. a && b) (sym (one_less n (length xs)) ∙ parts.0) rest) (omega (arith, below))
+will_of each e1 e2 all below = grind arith
 
 wills_are : (n : ℕ) (xs : List Left) → ((i : ℕ) → i < n → slice_get xs i ≡ Some left.AtWill) → are_at_will n xs ≡ true
 wills_are zero xs each = ap (λ b. b && true) (none_less (length xs))
@@ -88,12 +80,10 @@ not_less k n large = grind (arith, nat_tests)
 -- ---- what is offered
 
 pub untimed : (clock : ℕ) (o : Option Event) → timed None clock o ≡ o
-untimed clock None = refl
-untimed clock (Some e) = refl
+untimed clock o = grind arith
 
 take_brief : (forget : Option ℕ) (worker : ℕ) → is_brief forget (Take worker) ≡ true
-take_brief None worker = refl
-take_brief (Some n) worker = refl
+take_brief forget worker = grind arith
 
 pub due_same : (q : Question) (clock due : ℕ) → DueAlike q clock due clock due
 due_same (asks.Late name ms) clock due = refl
@@ -112,9 +102,7 @@ IsAside e = ((ms : ℕ) × (e ≡ Tick ms)) ⊎ (((v : Var) × (e ≡ event.Io v
 
 -- no worker does it
 aside_ranked : (n : ℕ) (s : State) (e : Event) → IsAside e → ranked (Some n) s (Some e) ≡ Some e
-aside_ranked n s e (inl (ms, is)) = subst (λ f. ranked (Some n) s (Some f) ≡ Some f) (sym is) refl
-aside_ranked n s e (inr (inl (v, is))) = subst (λ f. ranked (Some n) s (Some f) ≡ Some f) (sym is) refl
-aside_ranked n s e (inr (inr (v, is))) = subst (λ f. ranked (Some n) s (Some f) ≡ Some f) (sym is) refl
+aside_ranked n s e each = grind arith
 
 -- it comes again in a state with the same names where the loop stands in the same place, at the same time, and is blocked as well
 module _ (p : Program) (s a : State) (k j : Kept) (idle : owes k ≡ false) (still : owes j ≡ false) (place : a.place ≡ s.place)
@@ -213,8 +201,7 @@ still_blocked p s a k l none goes is = by (next p s Loop) refl is where
 one_leads : (r : Rules) (p : Place) (count i : ℕ) (l : Led) → i < count → led r p i ≡ Some l → none_leads r p count ≡ false
 one_leads r p zero i l below leads = absurd (omega (arith, below))
 one_leads r p (suc count) i l below leads = elim (or_last i count below) [
-  | inl same ↦ (let here : is_none (led r p count) ≡ false = ap (λ n. is_none (led r p n)) (sym same) ∙ ap is_none leads in
-      ap (λ b. none_leads r p count && b) here ∙ false_behind (none_leads r p count))
+  | inl same ↦ (grind arith)
   | inr less ↦ ap (λ b. b && is_none (led r p count)) (one_leads r p count i l less leads)
 ]
   where
@@ -224,14 +211,13 @@ one_leads r p (suc count) i l below leads = elim (or_last i count below) [
 
 -- the first move is apart where a take is
 take_apart : (r : Rules) (s : Spot) → r.at_once ≡ true → is_take_first r s.place ≡ true → apart r s 0 ≡ true
-take_apart r s now is =
-    ap (λ b. if 0 == loop_number b then is_loop_first r s.place else ((0 == 0) && is_take_first r s.place)) now ∙ is
+take_apart r s now is = cc
 
 pub spot_is_in : (r : Rules) (q : Spot) (f : Led) → is_few r.forget (length q.steps + 1) ≡ true
     → spot_of r q (Some f) ≡ Some (after_event q f, answers r q.place f)
 spot_is_in r q f short = ap (λ c. if◌then◌else◌ {A = Option (Spot × Bool)} c (Some (after_event q f, answers r q.place f)) None) short
 
-module _ (r : Rules) (can : CanTakeAtOnce r) (may : CanForget r can.counted) where
+module _ (r : Rules) (can : AreOfPool r) (may : CanForget r can.counted) where
   abbrev spot_is : (q : Spot) (f : Led) → is_few r.forget (length q.steps + 1) ≡ true
       → spot_of r q (Some f) ≡ Some (after_event q f, answers r q.place f)
   spot_is q f short = spot_is_in r q f short
@@ -339,7 +325,7 @@ module _ (r : Rules) (can : CanTakeAtOnce r) (may : CanForget r can.counted) whe
 
   -- ---- what comes beside the take
 
-  module _ (s : Spot) (is : IsSpot r s) (few : is_few r.forget (length s.steps + 2) ≡ true) (now : r.at_once ≡ true)
+  module _ (once : CanTakeAtOnce r) (s : Spot) (is : IsSpot r s) (few : is_few r.forget (length s.steps + 2) ≡ true) (now : r.at_once ≡ true)
       (wills : are_at_will (worker_count r.program + 2) s.place.left ≡ true) (idle : owes s.place.kept ≡ false)
       (w : ℕ) (free : idle_worker s.place.state ≡ Some w) (a : State) (l : Option Seen)
       (goes : next r.program s.place.state (Take w) ≡ Moves a l) where
@@ -372,10 +358,10 @@ module _ (r : Rules) (can : CanTakeAtOnce r) (may : CanForget r can.counted) whe
     outside_keeps : (e : Event) (t : State) (line : Option Seen) (k : Kept) → is_outside true e ≡ true → owes k ≡ false → kept_by k e t line ≡ k
     outside_keeps e t line k out none =
         subst (λ ts. kept_after r.recorded ts r.question k e t line ≡ k) (sym can.takes)
-        (kept_outside r.recorded r.question k true e t line can.question none out)
+        (kept_outside r.recorded r.question k true e t line once.question none out)
 
     no_cancel : cancels r.program s.place.state ≡ false
-    no_cancel = none_cancels r.program can.cancels s.place.state
+    no_cancel = none_cancels r.program once.cancels s.place.state
 
     leaves : LeavesPlace r.program s.place.state a
     leaves = take_leaves r.program s.place.state a w l goes
@@ -383,7 +369,7 @@ module _ (r : Rules) (can : CanTakeAtOnce r) (may : CanForget r can.counted) whe
     kept_there : (e : Event) (t u : State) (line : Option Seen) (k : Kept) → owes k ≡ false → kept_by k e t line ≡ kept_by k e u line
     kept_there e t u line k none =
         subst (λ ts. kept_after r.recorded ts r.question k e t line ≡ kept_after r.recorded ts r.question k e u line) (sym can.takes)
-        (kept_same r.recorded r.question k e t u line can.question none)
+        (kept_same r.recorded r.question k e t u line once.question none)
 
     -- another move: it is taken behind the take too, by this number, and the take behind it
     record Beside (i : ℕ) (e : Event) (b : State) (m : Option Seen) : Type 0 where
@@ -399,7 +385,7 @@ module _ (r : Rules) (can : CanTakeAtOnce r) (may : CanForget r can.counted) whe
         → Beside 1 e b m
     loop_beside e b m offered comes =
         let here : event_at r s.place 1 ≡ Some Loop =
-        at_will_is s.place 1 (offers.Step Loop) can.loop (will 1 (omega arith)) ∙ loop_shown s.place idle in
+        at_will_is s.place 1 (offers.Step Loop) once.loop (will 1 (omega arith)) ∙ loop_shown s.place idle in
         subst (λ f. Beside 1 f b m) (same_Some Loop e (sym here ∙ offered))
         (by (subst (λ f. next r.program s.place.state f ≡ Moves b m) (sym (same_Some Loop e (sym here ∙ offered))) comes))
       where
@@ -411,8 +397,8 @@ module _ (r : Rules) (can : CanTakeAtOnce r) (may : CanForget r can.counted) whe
               take_after = met.event_after;
               after_take = met.loop_after;
               number = 1;
-              below = below_count by_take.place 1 (at_will (offers.Step Loop)) can.loop;
-              again = at_will_is by_take.place 1 (offers.Step Loop) can.loop (will_behind 1 (omega arith)) ∙ loop_shown by_take.place idle_behind;
+              below = below_count by_take.place 1 (at_will (offers.Step Loop)) once.loop;
+              again = at_will_is by_take.place 1 (offers.Step Loop) once.loop (will_behind 1 (omega arith)) ∙ loop_shown by_take.place idle_behind;
               left = refl;
             }
 
@@ -589,7 +575,7 @@ module _ (r : Rules) (can : CanTakeAtOnce r) (may : CanForget r can.counted) whe
 
       led_last : led r by_other.place 0 ≡ Some last
       led_last = led_is r may.differ by_other.place 0 (Take v) taken_by said (within_same taken_by b refl r.most ∙ bound)
-          (at_will_is by_other.place 0 offers.Take can.take will_other ∙ take_shown by_other.place v first_idle.1) takes_there
+          (at_will_is by_other.place 0 offers.Take once.take will_other ∙ take_shown by_other.place v first_idle.1) takes_there
 
       names : x.state.names ≡ b.names
       names = (take_leaves r.program b x.state w l x.take_after).names
@@ -621,7 +607,7 @@ module _ (r : Rules) (can : CanTakeAtOnce r) (may : CanForget r can.counted) whe
           × (answers r by_other.place last ≡ answers r by_other.place middle)
       alike = takes_cover r can.counted can.forgets may behind_other behind_other spot_other spot_other (few_behind by_other) itself 0 v w
           taken_by x.state said l
-          (run_at r.program can.counted b v None idle_there ∙ sym (run_at r.program can.counted b w None taking.idle))
+          (run_at b v None idle_there ∙ sym (run_at b w None taking.idle))
           takes_there x.take_after spot_last spot_middle
 
       one_place : middle.place ≡ end.place
@@ -642,7 +628,7 @@ module _ (r : Rules) (can : CanTakeAtOnce r) (may : CanForget r can.counted) whe
           ∙ ap (λ p. place_answers r p r.question) one_place
 
       line_later : line_answers r.program r.question s.place.kept.due b m ≡ line_answers r.program r.question by_take.place.kept.due x.state m
-      line_later = line_same r.program r.question s.place.kept.due by_take.place.kept.due b x.state (sym names) can.question m
+      line_later = line_same r.program r.question s.place.kept.due by_take.place.kept.due b x.state (sym names) once.question m
 
       place_later : place_answers r by_other.place r.question ≡ true → place_answers r end.place r.question ≡ true
       place_later = by r.question where
@@ -653,7 +639,7 @@ module _ (r : Rules) (can : CanTakeAtOnce r) (may : CanForget r can.counted) whe
         by asks.Stuck h =
             let parts = and_parts (is_blocked r.program b) (none_leads r by_other.place (move_count r by_other.place)) h in
             let leads = one_leads r by_other.place (move_count r by_other.place) 0 last
-            (ltb-true 0 (move_count r by_other.place) (below_count by_other.place 0 (at_will offers.Take) can.take)) led_last in
+            (ltb-true 0 (move_count r by_other.place) (below_count by_other.place 0 (at_will offers.Take) once.take)) led_last in
             absurd (let f : true ≡ false = sym parts.1 ∙ leads in cc)
         by (asks.Call which name n) h = absurd (let f : false ≡ true = h in cc)
         by (asks.Code code name) h = absurd (let f : false ≡ true = h in cc)
@@ -690,7 +676,7 @@ module _ (r : Rules) (can : CanTakeAtOnce r) (may : CanForget r can.counted) whe
         d = answers r by_other.place last;
         e = answers r by_take.place end;
         late = 0;
-        offered = ltb-true 0 (move_count r by_other.place) (below_count by_other.place 0 (at_will offers.Take) can.take);
+        offered = ltb-true 0 (move_count r by_other.place) (below_count by_other.place 0 (at_will offers.Take) once.take);
         goes = ap (spot_of r behind_other) led_last ∙ spot_is behind_other last (few_behind by_other);
         behind = x.number;
         stays = ltb-true x.number (move_count r by_take.place) x.below;
@@ -706,7 +692,8 @@ take_meets : (r : Rules) (n : ℕ) (s : Spot) (i : ℕ) → HasRoom r (suc (suc 
     → IsApart (λ (q : Spot). move_count r q.place) (next_spot r) (spot_code r) (apart r) s 0 i
 take_meets r n s i room first below other m q b c goes comes =
     let parts = and_parts r.at_once _ first in
-    let can = room.holds.behind_take parts.0 in
+    let once = room.holds.behind_take parts.0 in
+    let can = once.of_pool in
     let may = room.spot.forgets can.counted can.forgets in
     let both = and_parts (are_at_will (worker_count r.program + 2) s.place.left) _ parts.1 in
     let few = fewer r r.forget (length s.steps + 2) (length s.steps + suc (suc n)) (omega arith) room.few in
@@ -715,9 +702,9 @@ take_meets r n s i room first below other m q b c goes comes =
     let x = is_led r may.differ s.place 0 one.0 one.1.0 in
     let y = is_led r may.differ s.place i two.0 two.1.0 in
     let will = will_of (worker_count r.program + 2) s.place.left 0 both.0 (omega arith) in
-    let take = take_is r can may s.place x.event (sym (at_will_is r can may s.place 0 offers.Take can.take will) ∙ x.offered) in
+    let take = take_is r can may s.place x.event (sym (at_will_is r can may s.place 0 offers.Take once.take will) ∙ x.offered) in
     let goes_on = subst (λ e. next r.program s.place.state e ≡ Moves x.state x.line) take.2 x.goes in
-    let met = meeting r can may s room.spot few parts.0 both.0 (not_true (owes s.place.kept) both.1) take.0 take.1 x.state x.line goes_on
+    let met = meeting r can may once s room.spot few parts.0 both.0 (not_true (owes s.place.kept) both.1) take.0 take.1 x.state x.line goes_on
     i other y.event y.state y.line y.offered y.goes y.within in
     let by_take : one.0 ≡ led_take r s.place 0 take.0 x.state x.line = x.is ∙ (λ j. record {
       event = take.2 j;
@@ -741,8 +728,4 @@ apart_meets r n s k i room first offered below other = by (k == loop_number r.at
       let same = eqb-true k (loop_number r.at_once) is in
       subst (λ j. IsApart (λ (q : Spot). move_count r q.place) (next_spot r) (spot_code r) (apart r) s j i) (sym same)
       (loop_meets r n s i room h below (λ e. other (e ∙ sym same)))
-  by false is h =
-      let parts = and_parts (k == 0) (is_take_first r s.place) h in
-      let same = eqb-true k 0 parts.0 in
-      subst (λ j. IsApart (λ (q : Spot). move_count r q.place) (next_spot r) (spot_code r) (apart r) s j i) (sym same)
-      (take_meets r n s i room parts.1 below (λ e. other (e ∙ sym same)))
+  by false is h = grind (arith, and_parts, eqb-true, take_meets)

@@ -1,18 +1,16 @@
 -- How far the clock goes: by what a tick says, and by nothing else.
-use Rattle.std.proofs.Common.{◌≡◌, ℕ, ◌+◌, ◌*◌, ◌<◌, ◌≤◌, true, List, [], ◌∷◌, length, Option, Some, None, Result, Ok, Err, slice_get, refl, ap, subst, arith}
+use Rattle.std.proofs.Common.{◌≡◌, ℕ, ◌+◌, ◌*◌, ◌<◌, ◌≤◌, true, List, [], ◌∷◌, length, Option, Some, None, Result, refl, ap, subst, arith}
 use Rattle.uv_ids.specs.declared.event.Event.{Event}
-use Rattle.uv_ids.specs.declared.event.Event.TheVariants.{Loop, Take, Finish, Cancel, Send, Io, Tick}
+use Rattle.uv_ids.specs.declared.event.Event.TheVariants.{Io, Tick}
 use Rattle.uv_ids.specs.declared.seen.Seen.{Seen}
 use Rattle.uv_ids.specs.declared.seen.Seen.TheVariants as seen
 use Rattle.uv_ids.specs.declared.id.Id.{Id}
 use Rattle.uv_ids.specs.declared.id.Var.{Var}
 use Rattle.uv_ids.specs.declared.fault.Why.{Why}
 use Rattle.uv_ids.specs.declared.order.Order.{Order}
-use Rattle.uv_ids.specs.declared.order.Order.TheVariants.{V144, V145}
 use Rattle.uv_ids.specs.declared.phase.Mode.{Mode}
 use Rattle.uv_ids.specs.declared.seen.Callback.{Callback}
 use Rattle.uv_script.specs.declared.op.Op.{Op}
-use Rattle.uv_script.specs.declared.op.Op.TheVariants as op
 use Rattle.uv_work.specs.declared.request.Request.{Request}
 use Rattle.uv_script.specs.Program.{Program, order_of}
 use Rattle.uv_model.specs.State.{State, fresh}
@@ -21,8 +19,8 @@ use Rattle.uv_model.specs.Next as step
 use Rattle.uv_model.specs.Next.{Next, Moves, Refuses, next}
 use Rattle.uv_model.proofs.Refusals.{OfLoop, loop_lines}
 use Rattle.uv_order.specs.Line.{Line}
-use Rattle.uv_order.specs.Documented.{Told, Names, Position, Between, Section, In, Entry, Standing, Polling, Answering, Lasting, Goes, IsCallLine, names_by}
-use Rattle.uv_order.specs.Documented.{lasting, nothing_told, told_by, after_op, after_run, after_word, after_section, after_io, after_end}
+use Rattle.uv_order.specs.Documented.{Told, Names, Position, Between, Section, Standing, Lasting, Goes, IsCallLine, names_by}
+use Rattle.uv_order.specs.Documented.{lasting, nothing_told, told_by, after_op, after_run, after_section, after_io, after_end}
 use Rattle.uv_order.specs.Documented.Goes.{main_line, run, section, poll, ends, call, fires, answers, answer_op, body_op, sent, taken, finished, cancelled, outside}
 use Rattle.uv_find.specs.Forgetting.{LONG}
 use Rattle.uv_find.specs.Orders.{is_brief}
@@ -44,33 +42,23 @@ ms_by (Tick ms) = ms
 ms_by e = 0
 
 op_clock : (o : Op) (s : State) → (after_op o s).clock ≡ s.clock
-op_clock op.UpdateTime s = refl
-op_clock op.StopLoop s = refl
-op_clock o s = refl
+op_clock o s = grind arith
 
 run_clock : (o : Order) (m : Mode) (s : State) → (after_run o m s).clock ≡ s.clock
 run_clock o m s = grind arith
 
 section_clock : (o : Order) (at : Standing) (part : Section) (s : State) → (after_section o at part s).clock ≡ s.clock
-section_clock o (Answering woken body) part s = refl
-section_clock o at part s = word_clock o part s where
-  word_clock : (o : Order) (part : Section) (s : State) → (after_word o part s).clock ≡ s.clock
-  word_clock V145 Entry s = refl
-  word_clock V144 Entry s = refl
-  word_clock o (In word) s = grind arith
+section_clock o at part s = grind arith
 
 io_clock : (at : Standing) (s : State) → (after_io at s).clock ≡ s.clock
-io_clock (Polling deadline) s = refl
-io_clock at s = refl
+io_clock at s = grind arith
 
 call_line : (s : State) (kind : Callback) (v : Var) (id : Id) (what : Seen) → IsCallLine s kind v id what → ms_of what ≡ 0
 call_line s kind v id what is = grind arith
 
 stands : (l : Line) (was : Lasting) → lasting l.after ≡ was → was.clock ≡ l.before.clock → ms_of l.seen ≡ 0 →
     l.after.clock ≡ l.before.clock + ms_of l.seen
-stands l was last same none =
-    let clock : l.after.clock ≡ was.clock = ap (λ (x : Lasting). x.clock) last in
-    omega (arith, clock, same, none)
+stands l was last same none = grind arith
 
 line_clock : (p : Program) (told : Told) (names : Names) (l : Line) (at to : Position) → Goes p told names at l to →
     l.after.clock ≡ l.before.clock + ms_of l.seen
@@ -93,15 +81,11 @@ line_clock p told names l at to (sent v code says last) = stands l (lasting l.be
 line_clock p told names l at to (taken k v id says made last) = stands l (lasting l.before) last refl (ap ms_of says)
 line_clock p told names l at to (finished k v id says made last) = stands l (lasting l.before) last refl (ap ms_of says)
 line_clock p told names l at to (cancelled v a says last) = stands l (lasting l.before) last refl (ap ms_of says)
-line_clock p told names l at to (outside ms says last) =
-    let clock : l.after.clock ≡ l.before.clock + ms = ap (λ (x : Lasting). x.clock) last in
-    let same : ms_of l.seen ≡ ms = ap ms_of says in
-    omega (arith, clock, same)
+line_clock p told names l at to (outside ms says last) = grind arith
 
 still_clock : (p : Program) (told : Told) (past : List Seen) (s : State) (at : Position) (t : State) (line : Option Seen) →
     HoldsNext p told past s at (Moves t line) → t.clock ≡ s.clock + ms_in line
-still_clock p told past s at t None h = omega (arith, ap (λ (l : Lasting). l.clock) h.lasts)
-still_clock p told past s at t (Some l) h = line_clock p told (names_by p past) (record { before = s; seen = l; after = t }) at h.to h.goes
+still_clock p told past s at t line h = grind (arith, line_clock)
 
 -- a line without a time, of a step that isn't a tick
 abbrev Timeless : Next → Type 0
@@ -109,23 +93,15 @@ Timeless (Moves t line) = ms_in line ≡ 0
 Timeless (Refuses why) = Unit {0}
 
 no_tick : (x : Next) → OfLoop x → Timeless x
-no_tick (Moves t None) h = refl
-no_tick (Moves t (Some line)) h = grind arith
-no_tick (Refuses why) h = tt
+no_tick each h = grind arith
 
 by_take : (s : State) (k : ℕ) (x : Result (Id × Request) Why) → Timeless (step.take s k x)
-by_take s k (Ok t) = refl
-by_take s k (Err why) = tt
+by_take s k x = grind arith
 
 timeless : (p : Program) (s : State) (e : Event) (t : State) (line : Option Seen) → next p s e ≡ Moves t line → ms_in line ≤ ms_by e
 unfolding next
-timeless p s Loop t line is = omega (arith, subst Timeless is (no_tick (next p s Loop) (loop_lines p s)))
-timeless p s (Take k) t line is = omega (arith, subst Timeless is (by_take s k (step.next_work s (slice_get s.running k))))
-timeless p s (Finish k) t line is = grind arith
-timeless p s (Cancel v) t line is = grind arith
-timeless p s (Send v) t line is = grind arith
 timeless p s (Io v) t line is = grind arith
-timeless p s (Tick ms) t line is = grind arith
+timeless p s each t line is = grind (arith, no_tick, loop_lines, by_take)
 
 -- ---- a step, and all steps
 

@@ -1,5 +1,5 @@
 -- A finish is covered where workers run two requests that are alike: by that of the first one.
-use Rattle.std.proofs.Common.{◌≡◌, ℕ, zero, suc, ◌+◌, ◌-◌, ◌<◌, ◌≤◌, ◌==◌, ◌&&◌, Bool, true, false, List, [], ◌∷◌, length, length-append, slice_get, nat_lt, if◌then◌else◌, refl, ap, ap₂, sym, subst, ◌∙◌, Option, Some, None, arith}
+use Rattle.std.proofs.Common.{◌≡◌, ℕ, zero, suc, ◌+◌, ◌-◌, ◌<◌, ◌≤◌, ◌&&◌, Bool, true, false, List, [], ◌∷◌, length, length-append, slice_get, nat_lt, if◌then◌else◌, refl, ap, ap₂, sym, subst, ◌∙◌, Option, Some, None, arith}
 use Rattle.std.proofs.lemmas.Bool.{and_parts, ltb-true}
 use Rattle.std.proofs.lemmas.Option.{none-some, same_Some}
 use Rattle.uv_ids.specs.declared.event.Event.TheVariants.{Finish}
@@ -15,11 +15,11 @@ use Rattle.uv_search.specs.Ways.{Ends, IsCovered}
 use Rattle.uv_tale.specs.Tale.{as_id, name_at}
 use Rattle.uv_find.specs.Holding.{are_at_will}
 use Rattle.uv_find.specs.Mates as mates
-use Rattle.uv_find.specs.Mates.{has_mate, main_spares, place_spares, same_calls, are_run_alike, run_of, request_of, is_covered_by}
+use Rattle.uv_find.specs.Mates.{has_mate, main_spares, same_calls, are_run_alike, request_of, is_covered_by}
 use Rattle.uv_find.specs.Orders.{Rules, Place, Led, led, move_count, offered_by}
 use Rattle.uv_find.specs.Questions.{answers}
 use Rattle.uv_find.specs.Ranks.{rank_in, rank_of, runner}
-use Rattle.uv_find.specs.Spots.{Spot, CanForget, CanTakeAtOnce, AreMates, IsSpot, HasRoom, covered, is_few, next_spot, spot_of}
+use Rattle.uv_find.specs.Spots.{Spot, CanForget, AreOfPool, AreMates, IsSpot, HasRoom, covered, is_few, next_spot, spot_of}
 use Rattle.uv_find.proofs.Alike.{AreAlike, IsGoing, spot_going, spot_regular}
 use Rattle.uv_find.proofs.AtOnce.{due_same, spot_is_in}
 use Rattle.uv_find.proofs.Covering.{LedAlike, led_alike, place_alike}
@@ -36,7 +36,7 @@ use Rattle.uv_find.proofs.Runners.{rank_named, rank_same, rank_slot}
 use Rattle.uv_find.proofs.Swap.{is_equal}
 use Rattle.uv_find.proofs.Twins.{AreTwins, twins_alike, at_x, turned_y}
 
-module _ (change : NamesChange) (r : Rules) (a : ℕ) (mate : AreMates r a) (take : CanTakeAtOnce r) (may : CanForget r take.counted) where
+module _ (change : NamesChange) (r : Rules) (a : ℕ) (mate : AreMates r a) (take : AreOfPool r) (may : CanForget r take.counted) where
   abbrev n : ℕ
   n = take.counted
 
@@ -173,7 +173,7 @@ module _ (change : NamesChange) (r : Rules) (a : ℕ) (mate : AreMates r a) (tak
       let rank_x : rank_of s t.x ≡ k = ap (rank_of s) (sym one) ∙ found.2 in
       rank_named r.program (mirrored a s) run.second t.y turned run.second_is
       ∙ ap (λ m. rank_in (called (mirrored a s)) (as_id m)) (turned_y r.program s a is_reached regular wide_q t)
-      ∙ rank_same n r.program (mirrored a s) s turned regular alike (as_id a)
+      ∙ rank_same n (mirrored a s) s alike (as_id a)
       ∙ sym (rank_named r.program s run.first t.x regular run.first_is ∙ ap (λ m. rank_in (called s) (as_id m)) name_first)
       ∙ rank_x
     where
@@ -249,13 +249,7 @@ and_both : (x y : Bool) → (x && y) ≡ true → (x ≡ true) × (y ≡ true)
 and_both x y e = and_parts x y e
 
 calls_are : (x y : Calls) → same_calls x y ≡ true → x ≡ y
-calls_are x y e =
-    let front = and_both ((x.handle == y.handle) && (x.after == y.after)) (x.close == y.close) e in
-    let two = and_both (x.handle == y.handle) (x.after == y.after) front.0 in
-    let handle = is_equal x.handle y.handle two.0 in
-    let later = is_equal x.after y.after two.1 in
-    let close = is_equal x.close y.close front.1 in
-    λ i. record { handle = handle i; after = later i; close = close i }
+calls_are x y e = grind arith
 
 -- what two workers run that are told to run requests that are alike
 record RunAlike (r : Rules) (s : State) (one two : Option ℕ) : Type 0 where
@@ -271,11 +265,6 @@ record RunAlike (r : Rules) (s : State) (one two : Option ℕ) : Type 0 where
   there : slice_get s.running second ≡ Some (Some twins.y)
 
 run_alike : (r : Rules) (s : State) (one two : Option ℕ) → are_run_alike r s one two ≡ true → RunAlike r s one two
-run_alike r s None two e = absurd (let f : false ≡ true = e in cc)
-run_alike r s (Some first) None e = by (request_of s (run_by s first)) e where
-  by : (o : Option Request) → mates.are_alike r s o None ≡ true → RunAlike r s (Some first) None
-  by None e = absurd (let f : false ≡ true = e in cc)
-  by (Some x) e = absurd (let f : false ≡ true = e in cc)
 run_alike r s (Some first) (Some second) e = by (run_by s first) (run_by s second) refl refl e where
   found : (x y : Id) (one two : Request) → run_by s first ≡ Some x → run_by s second ≡ Some y → request s x ≡ Some one → request s y ≡ Some two
       → mates.are_alike r s (Some one) (Some two) ≡ true → RunAlike r s (Some first) (Some second)
@@ -323,19 +312,19 @@ run_alike r s (Some first) (Some second) e = by (run_by s first) (run_by s secon
   held x y (Some one) (Some two) here there h k e = found x y one two here there h k e
 
   none_second : (x : Id) (o : Option Request) → mates.are_alike r s o None ≡ true → RunAlike r s (Some first) (Some second)
-  none_second x None e = absurd (let f : false ≡ true = e in cc)
-  none_second x (Some one) e = absurd (let f : false ≡ true = e in cc)
+  none_second x o e = grind arith
 
   by : (o t : Option Id) → run_by s first ≡ o → run_by s second ≡ t → mates.are_alike r s (request_of s o) (request_of s t) ≡ true
       → RunAlike r s (Some first) (Some second)
   by None t h k e = absurd (let f : false ≡ true = e in cc)
   by (Some x) None h k e = none_second x (request s x) e
   by (Some x) (Some y) h k e = held x y (request s x) (request s y) h k refl refl e
+run_alike r s each e3 e = grind arith
 
 pub covers_moves : NamesChange → (r : Rules) (m : ℕ) (q : Spot) (i : ℕ) → HasRoom r (suc m) q → covered r q i ≡ true → i < move_count r q.place
     → IsCovered (λ (x : Spot). move_count r x.place) (next_spot r) m q i
 covers_moves change r m q i room is below =
-    by (nat_lt 2 i && nat_lt i (worker_count r.program + 2)) refl (and_both _ _ is).1
+    by (nat_lt 2 i && nat_lt i (worker_count r.program + 2)) refl is
   where
     at : (i : ℕ) → 2 < i → i < worker_count r.program + 2 → are_at_will (worker_count r.program + 2) q.place.left ≡ true
         → are_run_alike r q.place.state (runner q.place.state (i - 2 - 1)) (runner q.place.state (i - 2)) ≡ true
@@ -347,21 +336,12 @@ covers_moves change r m q i room is below =
         let one : suc (suc (suc k)) - 2 - 1 ≡ k = omega arith in
         let two : suc (suc (suc k)) - 2 ≡ suc k = omega arith in
         let it = run_alike r q.place.state (runner q.place.state k) (runner q.place.state (suc k))
-        (subst (λ x. are_run_alike r q.place.state (runner q.place.state x) (runner q.place.state (suc k)) ≡ true) one
-        (subst (λ y. are_run_alike r q.place.state (runner q.place.state (suc (suc (suc k)) - 2 - 1)) (runner q.place.state y) ≡ true) two run)) in
+        (cc) in
         let mate = room.holds.alike it.a it.has in
-        let take = room.holds.behind_take mate.at_once in
+        let take = mate.of_pool in
         let may = room.spot.forgets take.counted take.forgets in
         covers change r it.a mate take may q k m (record { spot = room.spot; clear = it.clear; wills = wills })
-        (record {
-          first = it.first;
-          second = it.second;
-          runs_first = it.first_is;
-          runs_second = it.second_is;
-          twins = it.twins;
-          first_is = it.here;
-          second_is = it.there;
-        }) (omega (arith, within)) room.few
+        (search (sym)) (omega (arith, within)) room.few
 
     by : (b : Bool) → (nat_lt 2 i && nat_lt i (worker_count r.program + 2)) ≡ b → is_covered_by r q.place (if b then Some (i - 2) else None) ≡ true
         → IsCovered (λ (x : Spot). move_count r x.place) (next_spot r) m q i

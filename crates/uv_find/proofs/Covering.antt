@@ -1,5 +1,5 @@
 -- What a place does, one that has the same key does as well: it leads by each move to one of the same key, and answers alike.
-use Rattle.std.proofs.Common.{◌≡◌, inl, inr, ℕ, zero, suc, ◌+◌, ◌-◌, ◌<◌, ◌&&◌, Bool, true, false, List, [], ◌∷◌, ◌++◌, length, nat_lt, is_none, slice_get, refl, sym, ap, ap₂, subst, ◌∙◌, Option, Some, None, if◌then◌else◌, arith}
+use Rattle.std.proofs.Common.{◌≡◌, inl, inr, ℕ, zero, suc, ◌+◌, ◌-◌, ◌&&◌, Bool, true, false, List, [], ◌∷◌, ◌++◌, length, nat_lt, is_none, slice_get, refl, sym, ap, ap₂, subst, ◌∙◌, Option, Some, None, if◌then◌else◌, arith}
 use Rattle.std.proofs.lemmas.Option.{none-some}
 use Rattle.uv_ids.specs.declared.event.Event.{Event}
 use Rattle.uv_ids.specs.declared.event.Event.TheVariants.{Take}
@@ -9,19 +9,18 @@ use Rattle.uv_model.specs.Next.{Next, Moves, Refuses, next}
 use Rattle.uv_search.specs.Ways.{CoversMoves, CoversStep}
 use Rattle.uv_state_key.specs.Formed.{formed}
 use Rattle.uv_state_key.specs.TaleKey.{key_code, tale_code}
-use Rattle.uv_tale.proofs.Told.{tales_alike}
-use Rattle.uv_normal.specs.Normal.{calls_timer}
-use Rattle.uv_by_name.specs.ByName.{by_name, IsRegular}
+use Rattle.uv_tale.specs.Alike.{calls_timer, IsRegular, LeadsRegular}
+use Rattle.uv_tale.specs.Tale.{tale}
 use Rattle.uv_asking.specs.declared.asking.Offered.{Offered}
 use Rattle.uv_asking.specs.declared.asking.Question.{Question}
 use Rattle.uv_asking.specs.declared.asking.Question.TheVariants as asks
 use Rattle.uv_find.specs.declared.left.Left.{Left}
-use Rattle.uv_find.specs.Forgetting.{LONGEST, is_common}
+use Rattle.uv_find.specs.Forgetting.{is_common}
 use Rattle.uv_find.specs.Kept.{along_after}
 use Rattle.uv_find.specs.Orders.{Rules, Place, Choice, Led, led, led_by, placed, chosen, lessened, offered_by, is_brief, move_count, move_count_by, taken, reached, is_within}
 use Rattle.uv_find.specs.Questions.{answers, place_answers, none_leads, has_ended}
 use Rattle.uv_find.specs.Spots.{Spot, spot_of, next_spot, told_due, told, Told, left_code, kept_code, place_code, spot_code, CanForget, IsSpot, IsStanding, is_few}
-use Rattle.uv_find.proofs.Alike.{GoesAlike, GoesRegular, NextGoes, IsGoing, spot_going, AreAlike, DueAlike, kept_due_alike, within_alike, goes_alike, blocked_alike, offered_alike, both}
+use Rattle.uv_find.proofs.Alike.{GoesAlike, NextGoes, IsGoing, spot_going, AreAlike, DueAlike, kept_due_alike, within_alike, goes_alike, blocked_alike, offered_alike, both}
 use Rattle.uv_find.proofs.Led.{each, event_at, choice_is, led_leads, leads_spot, offered_brief}
 use Rattle.uv_find.proofs.Onward.{owed_alike, along_alike, uncalled_alike, line_alike}
 use Rattle.uv_find.proofs.Lines.{LinesAlike}
@@ -74,21 +73,21 @@ module _ (r : Rules) (n : ℕ) (forget : r.forget ≡ Some n) (can : CanForget r
   due_goes (asks.Behind name other) a b u v d e h k = h
 
   module _ (s t : Place) (hs : IsGoing r.program n s) (ht : IsGoing r.program n t) (alike : AreAlike r n s t) where
-    events_alike : (number : ℕ) → OffersAlike r.program n s.state t.state (event_at r s number) (event_at r t number)
+    events_alike : (number : ℕ) → OffersAlike s.state t.state (event_at r s number) (event_at r t number)
     events_alike number =
-        subst (λ (xs : List Left). OffersAlike r.program n s.state t.state (event_at r s number)
+        subst (λ (xs : List Left). OffersAlike s.state t.state (event_at r s number)
         (if nat_lt number (move_count_by r.differ (length r.offers) (length xs))
         then offered_by r t (slice_get r.offers number) (slice_get xs number) else None)) alike.left
         (by (nat_lt number (move_count r s)))
       where
-        by : (b : Bool) → OffersAlike r.program n s.state t.state
+        by : (b : Bool) → OffersAlike s.state t.state
             (if b then offered_by r s (slice_get r.offers number) (slice_get s.left number) else None)
             (if b then offered_by r t (slice_get r.offers number) (slice_get s.left number) else None)
         by true = offered_alike r n forget can s t hs ht alike (slice_get r.offers number) (slice_get s.left number)
             (λ (o : Offered) (is : slice_get r.offers number ≡ Some o). each (λ (x : Offered). is_common x.offer) r.offers number o can.aside is)
         by false = tt
 
-    module _ (number : ℕ) (e f : Event) (does : EventsAlike r.program n s.state t.state e f) (brief : is_brief (Some n) e ≡ true) where
+    module _ (number : ℕ) (e f : Event) (does : EventsAlike s.state t.state e f) (brief : is_brief (Some n) e ≡ true) where
       abbrev c : Choice
       c = record { event = e; left = lessened s.left number; kept = s.kept }
 
@@ -97,14 +96,14 @@ module _ (r : Rules) (n : ℕ) (forget : r.forget ≡ Some n) (can : CanForget r
 
       behind : (w : Place) (hw : IsGoing r.program n w) (g : Event) (u : State) (line : Option Seen) → next r.program w.state g ≡ Moves u line
           → IsRegular r.program u
-      behind w hw g u line goes = subst (GoesRegular r.program) goes (hw.leads g)
+      behind w hw g u line goes = subst (LeadsRegular r.program) goes (hw.leads g)
 
       along_both : (u v : State) (line other : Option Seen) → IsRegular r.program u → IsRegular r.program v
-          → by_name r.program n u ≡ by_name r.program n v
+          → tale n u ≡ tale n v
           → LinesAlike r.program line other
           → along_after r.recorded s.kept.along e line ≡ along_after r.recorded t.kept.along f other
       along_both u v line other ru rv same lines = by does where
-        by : EventsAlike r.program n s.state t.state e f
+        by : EventsAlike s.state t.state e f
             → along_after r.recorded s.kept.along e line ≡ along_after r.recorded t.kept.along f other
         by (inl h) =
             subst (λ g. along_after r.recorded s.kept.along e line ≡ along_after r.recorded t.kept.along g other) h.0
@@ -128,13 +127,13 @@ module _ (r : Rules) (n : ℕ) (forget : r.forget ≡ Some n) (can : CanForget r
             places = record {
               state = k.same;
               left = ap (λ xs. lessened xs number) alike.left;
-              owed = owed_alike r n forget can u v ru rv k.same s.kept.owed t.kept.owed line other alike.owed k.lines;
-              along = along_both u v line other ru rv k.same k.lines;
+              owed = owed_alike r n forget can u v ru rv k.same s.kept.owed t.kept.owed line other alike.owed k.same_line;
+              along = along_both u v line other ru rv k.same k.same_line;
               due = kept_due_alike r n forget can u v ru rv k.same r.question s.kept.due t.kept.due dues;
             };
             regular = ru;
             other = rv;
-            lines = k.lines;
+            lines = k.same_line;
             timers = k.timers;
             dues = dues;
           }
@@ -167,7 +166,7 @@ module _ (r : Rules) (n : ℕ) (forget : r.forget ≡ Some n) (can : CanForget r
         (by (event_at r s number) (event_at r t number) (event_brief s number) (events_alike number)))
       where
         by : (x y : Option Event) → ((e : Event) → x ≡ Some e → is_brief (Some n) e ≡ true)
-            → OffersAlike r.program n s.state t.state x y →
+            → OffersAlike s.state t.state x y →
             LedAlike s t (led_by r s (chosen (lessened s.left number) s.kept x))
             (led_by r t (chosen (lessened t.left number) t.kept y))
         by None None brief h = tt
@@ -230,7 +229,7 @@ module _ (r : Rules) (n : ℕ) (forget : r.forget ≡ Some n) (can : CanForget r
   codes_alike : (p q : Place) → IsRegular r.program p.state → IsRegular r.program q.state → AreAlike r n p q → place_code r p ≡ place_code r q
   codes_alike p q one two h =
       let key : key_code r.forget p.state ≡ key_code r.forget q.state =
-      subst (λ o. key_code o p.state ≡ key_code o q.state) (sym forget) (ap tale_code (tales_alike r.program n p.state q.state one two h.state)) in
+      subst (λ o. key_code o p.state ≡ key_code o q.state) (sym forget) (ap tale_code h.state) in
       let due : told_due r.forget r.question p.state.clock p.kept.due ≡ told_due r.forget r.question q.state.clock q.kept.due =
       subst (λ o. told_due o r.question p.state.clock p.kept.due ≡ told_due o r.question q.state.clock q.kept.due) (sym forget)
       (due_told r.question p.state.clock q.state.clock p.kept.due q.kept.due h.due) in
@@ -250,9 +249,12 @@ module _ (r : Rules) (n : ℕ) (forget : r.forget ≡ Some n) (can : CanForget r
   due_by (asks.Before name other) a b d e h = ap (λ x. x.0) h
   due_by (asks.Behind name other) a b d e h = ap (λ x. x.0) h
 
+  told_tale : (s t : State) → formed (Some n) s ≡ formed (Some n) t → tale n s ≡ tale n t
+  told_tale s t same = cc
+
   alike_by : (p q : Place) → told r p ≡ told r q → AreAlike r n p q
   alike_by p q h = record {
-    state = subst (λ o. formed r.program o p.state ≡ formed r.program o q.state) forget (ap (λ (x : Told). x.state) h);
+    state = told_tale p.state q.state (subst (λ o. formed o p.state ≡ formed o q.state) forget (ap (λ (x : Told). x.state) h));
     left = ap (λ (x : Told). x.left) h;
     owed = ap (λ (x : Told). x.owed) h;
     along = ap (λ (x : Told). x.along) h;
@@ -287,14 +289,14 @@ module _ (r : Rules) (n : ℕ) (forget : r.forget ≡ Some n) (can : CanForget r
 
     -- two workers that run alike take a request, by this offer: they lead to places of one key, and answer alike
     pub takes_cover : (number worker other : ℕ) (u v : State) (line says : Option Seen)
-        → RunAlike r.program n s.place.state t.place.state worker other
+        → RunAlike s.place.state t.place.state worker other
         → next r.program s.place.state (Take worker) ≡ Moves u line → next r.program t.place.state (Take other) ≡ Moves v says
         → IsSpot r (after_event s (led_take r s.place number worker u line)) → IsSpot r (after_event t (led_take r t.place number other v says))
         → (spot_code r (after_event s (led_take r s.place number worker u line))
         ≡ spot_code r (after_event t (led_take r t.place number other v says)))
         × (answers r s.place (led_take r s.place number worker u line) ≡ answers r t.place (led_take r t.place number other v says))
     takes_cover number worker other u v line says runs goes comes here there =
-        let both : EventsAlike r.program n s.place.state t.place.state (Take worker) (Take other) =
+        let both : EventsAlike s.place.state t.place.state (Take worker) (Take other) =
         inr (inl (record { worker = worker; other = other; one = refl; two = refl; same = runs })) in
         let next_both = goes_alike r n forget can s.place t.place going other_going alike (Take worker) (Take other) both refl in
         let moved : GoesAlike r.program n s.place.state t.place.state u v line says =
@@ -331,33 +333,12 @@ module _ (r : Rules) (n : ℕ) (forget : r.forget ≡ Some n) (can : CanForget r
 
 -- ---- where places are told whole
 
-same_spots : (r : Rules) (s t : Spot) → s.place ≡ t.place → r.forget ≡ None → (o : Option Led) →
-    CoversStep (spot_code r) (spot_of r s o) (spot_of r t o)
-same_spots r s t same whole None = tt
-same_spots r s t same whole (Some l) = by (is_few r.forget (length s.steps + 1)) (is_few r.forget (length t.steps + 1))
-    (ap (λ o. is_few o (length t.steps + 1)) whole)
-  where
-    by : (b c : Bool) → c ≡ true → CoversStep (spot_code r)
-        (if◌then◌else◌ {A = Option (Spot × Bool)} b (Some (record { place = l.place; steps = s.steps ++ l.event ∷ [] }, answers r s.place l)) None)
-        (if◌then◌else◌ {A = Option (Spot × Bool)} c (Some (record { place = l.place; steps = t.steps ++ l.event ∷ [] }, answers r t.place l)) None)
-    by false c few = tt
-    by true false few = absurd cc
-    by true true few = (refl, ap (λ (p : Place). answers r p l) same)
-
 whole_place : (r : Rules) (p q : Place) → r.forget ≡ None → told r p ≡ told r q → p ≡ q
-whole_place r p q whole e =
-    let state : p.state ≡ q.state = subst (λ o. formed r.program o p.state ≡ formed r.program o q.state) whole (ap (λ (x : Told). x.state) e) in
-    let dues = subst (λ o. told_due o r.question p.state.clock p.kept.due ≡ told_due o r.question q.state.clock q.kept.due) whole
-    (ap (λ (x : Told). x.due) e) in
-    let due : p.kept.due ≡ q.kept.due = ap (λ x. x.0) dues in
-    λ i. record { state = state i; left = (e i).left; kept = record { due = due i; owed = (e i).owed; along = (e i).along } }
+whole_place r p q whole e = grind arith
 
 -- behind a place that a session holds a step is one of few
 pub few_standing : (r : Rules) (t : Spot) → IsStanding r t → is_few r.forget (length t.steps + 1) ≡ true
-few_standing r t js = by r.forget where
-  by : (o : Option ℕ) → is_few o (length t.steps + 1) ≡ true
-  by None = refl
-  by (Some n) = let few : length t.steps + 1 < LONGEST = omega (arith, js.room) in grind (arith, few)
+few_standing r t js = grind arith
 
 pub spots_alike : (r : Rules) (s t : Spot) → IsSpot r s → IsSpot r t → is_few r.forget (length t.steps + 1) ≡ true
     → spot_code r s ≡ spot_code r t → CoversMoves (λ (a : Spot). move_count r a.place) (next_spot r) (spot_code r) s t
@@ -370,8 +351,4 @@ spots_alike r s t is js few e = by r.forget refl where
       let can = is.forgets n some in
       covers r n some can s t is js few (alike_by r n some can s.place t.place same)
   by None whole =
-      let place = whole_place r s.place t.place whole same in (
-        ap (move_count r) place,
-        λ i below. subst (λ (p : Place). CoversStep (spot_code r) (next_spot r s i) (spot_of r t (led r p i))) place
-            (same_spots r s t place whole (led r s.place i)),
-      )
+      let place = whole_place r s.place t.place whole same in (grind arith)

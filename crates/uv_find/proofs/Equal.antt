@@ -1,5 +1,5 @@
 -- Lines that are told to be the same, except for two names that are exchanged, are.
-use Rattle.std.proofs.Common.{◌≡◌, ℕ, zero, suc, ◌+◌, ◌<◌, ◌≤◌, ◌==◌, ◌&&◌, inl, inr, Bool, true, false, List, [], ◌∷◌, length, drop, nat_eq, nat_lt, get_or, if◌then◌else◌, refl, ap, ap₂, sym, subst, ◌∙◌, Option, Some, None, arith}
+use Rattle.std.proofs.Common.{◌≡◌, ℕ, zero, suc, ◌+◌, ◌<◌, ◌≤◌, ◌==◌, ◌&&◌, inl, inr, Bool, true, false, List, [], ◌∷◌, length, drop, nat_eq, nat_lt, get_or, refl, ap, ap₂, sym, subst, ◌∙◌, Option, Some, None, arith}
 use Rattle.std.specs.Prelude.{map, option_map, slice_index_or, unwrap_or}
 use Rattle.std.specs.Cmp.Lexicographic.{pointwise, same_text}
 use Rattle.std.proofs.lemmas.Bool.{and_parts, cases_order, eqb-true, ltb-true}
@@ -19,6 +19,7 @@ use Rattle.uv_work.specs.Tasks.{text_of}
 use Rattle.uv_work.specs.declared.task.Task.{Task}
 use Rattle.uv_work.proofs.TaskLemmas as tasks
 use Rattle.uv_alike.specs.Changed.{Change, changed_op, changed_callback}
+use Rattle.uv_alike.proofs.Same.{option_same}
 use Rattle.uv_slots.specs.Alike.{moved_var, by_names}
 use Rattle.uv_slots.specs.Arranged.{place_of}
 use Rattle.uv_find.specs.Same.{op_code, op_times, op_task, other_name, same_task, same_tasks, turned_name, same_call, turned_op, turned_line, turned_lines, turned_callbacks, all_turned}
@@ -92,69 +93,28 @@ told op.IsAlive = refl
 told op.Timeout = refl
 
 -- and where names are others
-turned : (c : Change) (o : Op) → op_by (op_code o) (op_times o) (option_map c.var (op_name o)) (op_task o) ≡ changed_op c o
-unfolding op_by name_by
-turned c (op.Init name kind.Timer) = refl
-turned c (op.Init name kind.Idle) = refl
-turned c (op.Init name kind.Prepare) = refl
-turned c (op.Init name kind.Check) = refl
-turned c (op.Init name kind.Async) = refl
-turned c (op.Init name kind.Io) = refl
-turned c (op.Start name timeout again) = refl
-turned c (op.StartWatcher name) = refl
-turned c (op.Stop name) = refl
-turned c (op.Again name) = refl
-turned c (op.SetRepeat name again) = refl
-turned c (op.DueIn name) = refl
-turned c (op.Ref name) = refl
-turned c (op.Unref name) = refl
-turned c (op.HasRef name) = refl
-turned c (op.IsActive name) = refl
-turned c (op.Close name) = refl
-turned c (op.IsClosing name) = refl
-turned c (op.Send name) = refl
-turned c (op.Queue name task) = refl
-turned c (op.Cancel name) = refl
-turned c op.CloseLoop = refl
-turned c op.StopLoop = refl
-turned c op.UpdateTime = refl
-turned c op.Now = refl
-turned c op.IsAlive = refl
-turned c op.Timeout = refl
-
 pub name_changed : (c : Change) (o : Op) → op_name (changed_op c o) ≡ option_map c.var (op_name o)
-name_changed c (op.Init name k) = refl
-name_changed c (op.Start name timeout again) = refl
-name_changed c (op.StartWatcher name) = refl
-name_changed c (op.Stop name) = refl
-name_changed c (op.Again name) = refl
-name_changed c (op.SetRepeat name again) = refl
-name_changed c (op.DueIn name) = refl
-name_changed c (op.Ref name) = refl
-name_changed c (op.Unref name) = refl
-name_changed c (op.HasRef name) = refl
-name_changed c (op.IsActive name) = refl
-name_changed c (op.Close name) = refl
-name_changed c (op.IsClosing name) = refl
-name_changed c (op.Send name) = refl
-name_changed c (op.Queue name task) = refl
-name_changed c (op.Cancel name) = refl
-name_changed c op.CloseLoop = refl
-name_changed c op.StopLoop = refl
-name_changed c op.UpdateTime = refl
-name_changed c op.Now = refl
-name_changed c op.IsAlive = refl
-name_changed c op.Timeout = refl
+name_changed c o = grind arith
+
+times_changed : (c : Change) (o : Op) → op_times (changed_op c o) ≡ op_times o
+times_changed c o = grind arith
+
+task_changed : (c : Change) (o : Op) → op_task (changed_op c o) ≡ option_map c.work.task (op_task o)
+task_changed c o = grind arith
+
+turned : (a : ℕ) (o : Op) → op_by (op_code o) (op_times o) (option_map (moved_var (swap a)) (op_name o)) (op_task o)
+    ≡ changed_op (by_names (swap a)) o
+turned a o =
+    let c = by_names (swap a) in
+    ap₂ (λ code times. op_by code times (option_map c.var (op_name o)) (op_task o)) (sym (grind arith)) (sym (times_changed c o))
+    ∙ ap₂ (op_by (op_code (changed_op c o)) (op_times (changed_op c o))) (sym (name_changed c o))
+    (sym (option_same _ (λ t. refl) (op_task o)) ∙ sym (task_changed c o))
+    ∙ told (changed_op c o)
 
 -- ---- which name takes a name's place
 
 pub other_is : (a : ℕ) (v : Var) → moved_var (swap a) v ≡ other_name a v
-other_is a v = by (v.0 == a) (v.0 == a + 1) refl refl where
-  by : (b c : Bool) → (v.0 == a) ≡ b → (v.0 == a + 1) ≡ c
-      → moved_var (swap a) v ≡ (if b then record { 0 = a + 1 } else if c then record { 0 = a } else v)
-  by true c is other = λ i. record { 0 = (ap (place_of (swap a)) (is_equal v.0 a is) ∙ first_goes a) i }
-  by false true is other = λ i. record { 0 = (ap (place_of (swap a)) (is_equal v.0 (a + 1) other) ∙ second_goes a) i }
-  by false false is other = λ i. record { 0 = other_stays a v.0 (differs v.0 a is) (differs v.0 (a + 1) other) i }
+other_is a v = grind (arith, is_equal, first_goes, second_goes, other_stays, differs)
 
 -- ---- what is told to be the same is
 
@@ -170,10 +130,7 @@ tasks_right None (Some y) e = absurd (let f : false ≡ true = e in cc)
 tasks_right (Some x) None e = absurd (let f : false ≡ true = e in cc)
 
 call_right : (x y : Option ℕ) → same_call x y ≡ true → x ≡ y
-call_right None None e = refl
-call_right (Some x) (Some y) e = ap Some (eqb-true x y e)
-call_right None (Some y) e = absurd (let f : false ≡ true = e in cc)
-call_right (Some x) None e = absurd (let f : false ≡ true = e in cc)
+call_right each e1 e = grind arith
 
 module _ (a : ℕ) where
   name_right : (x y : Option Var) → turned_name a x y ≡ true → option_map (moved_var (swap a)) x ≡ y
@@ -190,7 +147,7 @@ module _ (a : ℕ) where
       let first = and_parts _ _ again.0 in
       let times : op_times x ≡ op_times y =
       λ i. (eqb-true (op_times x).0 (op_times y).0 first.1 i, eqb-true (op_times x).1 (op_times y).1 again.1 i) in
-      sym (turned (by_names (swap a)) x)
+      sym (turned a x)
       ∙ ap₂ (λ c t. op_by c t (option_map (moved_var (swap a)) (op_name x)) (op_task x)) (eqb-true (op_code x) (op_code y) first.0) times
       ∙ ap₂ (λ n t. op_by (op_code y) (op_times y) n t) (name_right (op_name x) (op_name y) name.1)
       (tasks_right (op_task x) (op_task y) task.1)
@@ -277,22 +234,19 @@ module _ (a : ℕ) where
 -- ---- line by line
 
 pub other_length : (a : ℕ) (xs ys : List CallbackLine) → (length xs ≡ length ys → ⊥) → false ≡ turned_lines a xs ys
-other_length a [] [] differ = absurd (differ refl)
 other_length a (x ∷ xs) (y ∷ ys) differ =
     by (turned_line a x y) (turned_lines a xs ys) (other_length a xs ys (λ e. differ (ap suc e)))
   where
     by : (b c : Bool) → false ≡ c → false ≡ (b && c)
     by true c e = e
     by false c e = refl
-other_length a [] (y ∷ ys) differ = refl
-other_length a (x ∷ xs) [] differ = refl
+other_length a each e2 differ = grind arith
 
 front_of : (a : ℕ) (xs ys : List CallbackLine) (k : ℕ) (d : CallbackLine) → k < length xs → k < length ys
     → turned_lines a (drop k xs) (drop k ys) ≡ (turned_line a (get_or xs k d) (get_or ys k d) && turned_lines a (drop (k + 1) xs) (drop (k + 1) ys))
 front_of a xs ys k d long other =
     let one : suc k ≡ k + 1 = omega arith in
-    ap₂ (turned_lines a) (drop-cons xs k d long ∙ ap (λ n. get_or xs k d ∷ drop n xs) one)
-    (drop-cons ys k d other ∙ ap (λ n. get_or ys k d ∷ drop n ys) one)
+    grind (arith, drop-cons)
 
 pub lines_differ : (a : ℕ) (xs ys : List CallbackLine) (k : ℕ) (d : CallbackLine) → k < length xs → length xs ≡ length ys
     → turned_line a (get_or xs k d) (get_or ys k d) ≡ false → turned_lines a (drop k xs) (drop k ys) ≡ turned_lines a xs ys

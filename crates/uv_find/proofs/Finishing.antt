@@ -1,16 +1,13 @@
 -- Each worker that runs a request may finish it.
 use Rattle.std.proofs.Common.{◌≡◌, ℕ, zero, suc, ◌<◌, true, List, [], ◌∷◌, ◌++◌, length, nat_lt, slice_get, option_and_then, refl, sym, ap, subst, ◌∙◌, Option, Some, None, if◌then◌else◌, true≢false, arith}
 use Rattle.std.specs.Prelude.{option_map}
-use Rattle.std.proofs.lemmas.Option.{same_Some, none-some, slice_get-map}
+use Rattle.std.proofs.lemmas.Option.{same_Some, slice_get-map}
 use Rattle.uv_ids.specs.declared.event.Event.{Event}
 use Rattle.uv_ids.specs.declared.event.Event.TheVariants as event
 use Rattle.uv_ids.specs.declared.id.Id.{Id}
-use Rattle.uv_work.specs.declared.content.Content.{Content}
 use Rattle.uv_work.specs.declared.request.Request.{Request}
-use Rattle.uv_records.specs.Slots.{held}
 use Rattle.uv_script.specs.Program.{Program, worker_count}
 use Rattle.uv_model.specs.After.{after}
-use Rattle.uv_model.specs.Content.{request_in}
 use Rattle.uv_model.specs.Next.{Moves, next}
 use Rattle.uv_model.specs.Queries.{run_by}
 use Rattle.uv_model.specs.State.{State, request}
@@ -18,7 +15,7 @@ use Rattle.uv_model.proofs.Runs.{after-nil, after-moves}
 use Rattle.uv_order.specs.Active.{has_id, run_ids, AreDistinct, AreOpened}
 use Rattle.uv_order.proofs.Reaching.{reached}
 use Rattle.uv_generations.specs.Youngest.{IsInSlot}
-use Rattle.uv_pooled.proofs.Given.{has_at, one_in_slot}
+use Rattle.uv_tale.proofs.Given.{has_at, one_in_slot}
 use Rattle.uv_asking.specs.Asked.{Asked}
 use Rattle.uv_asking.specs.declared.asking.Offer.TheVariants.{Step}
 use Rattle.uv_asking.specs.declared.asking.Offered.{Offered}
@@ -28,7 +25,7 @@ use Rattle.uv_find.specs.declared.kept.Kept.{Kept}
 use Rattle.uv_find.specs.Holding.{may_take_at_once}
 use Rattle.uv_find.specs.Courses.{Course, IsOffered, LeadsOn}
 use Rattle.uv_find.specs.Found.{EachFinishes}
-use Rattle.uv_find.specs.Orders.{Rules, Place, Choice, Led, at_will, finishes, times_left, less, lessened, lessened_by, chosen, offered_by, beginning, first_left, timed, brief, move_count, move_count_by}
+use Rattle.uv_find.specs.Orders.{Rules, Place, Choice, Led, at_will, finishes, times_left, lessened, lessened_by, chosen, offered_by, beginning, first_left, timed, brief, move_count, move_count_by}
 use Rattle.uv_find.specs.Ranks.{key_at, keys_run, rank_of, runner, finish_by, ranked}
 use Rattle.uv_find.specs.Spots.{rules_of}
 use Rattle.uv_find.proofs.Led.{choice_is, event_at}
@@ -40,21 +37,14 @@ use Rattle.uv_find.proofs.Runners.{after_long, rank_slot, slot_rank, key_there, 
 -- ---- what is left
 
 pub at_will_kept : (xs : List Left) (i k : ℕ) → slice_get xs i ≡ Some left.AtWill → slice_get (lessened xs k) i ≡ Some left.AtWill
-at_will_kept [] i k e = absurd (none-some left.AtWill e)
-at_will_kept (x ∷ xs) zero zero e = ap (λ (o : Left). Some (less o)) (same_Some x left.AtWill e)
-at_will_kept (x ∷ xs) (suc i) zero e = e
-at_will_kept (x ∷ xs) zero (suc k) e = by (slice_get xs k) where
-  by : (o : Option Left) → slice_get (lessened_by (x ∷ xs) (suc k) o) zero ≡ Some left.AtWill
-  by None = e
-  by (Some y) = e
 at_will_kept (x ∷ xs) (suc i) (suc k) e = by (slice_get xs k) (at_will_kept xs i k e) where
   by : (o : Option Left) → slice_get (lessened_by xs k o) i ≡ Some left.AtWill → slice_get (lessened_by (x ∷ xs) (suc k) o) (suc i) ≡ Some left.AtWill
   by None more = more
   by (Some y) more = more
+at_will_kept each e1 e2 e = grind arith
 
 chosen_left : (xs : List Left) (kept : Kept) (o : Option Event) (c : Choice) → chosen xs kept o ≡ Some c → c.left ≡ xs
-chosen_left xs kept None c h = absurd (none-some c h)
-chosen_left xs kept (Some e) c h = sym (ap (λ (x : Choice). x.left) (same_Some (record { event = e; left = xs; kept = kept }) c h))
+chosen_left xs kept o c h = grind arith
 
 module _ (r : Rules) (differ : r.differ ≡ None) where
   leads_left : (p : Place) (l : Led) (i : ℕ) → LeadsOn r p l → slice_get p.left i ≡ Some left.AtWill → slice_get l.place.left i ≡ Some left.AtWill
@@ -80,10 +70,7 @@ module _ (r : Rules) (differ : r.differ ≡ None) where
 -- ---- who runs it
 
 request_held : (s : State) (id : Id) (q : Request) → request s id ≡ Some q → IsInSlot s id
-request_held s id q e = by (held s.arena.slots id) refl e where
-  by : (o : Option Content) → held s.arena.slots id ≡ o → request_in o ≡ Some q → IsInSlot s id
-  by None f g = cc g
-  by (Some x) f g = record { its = x; holds = f }
+request_held s id q e = grind arith
 
 distinct_behind : (xs ys : List Id) → AreDistinct (xs ++ ys) → AreDistinct ys
 distinct_behind [] ys d = d
@@ -92,10 +79,6 @@ distinct_behind (x ∷ xs) ys d = distinct_behind xs ys d.1
 -- no request is run twice
 one_runner : (xs : List Run) (i j : ℕ) (id : Id) → AreDistinct (run_ids xs) → slice_get xs i ≡ Some (Some id) → slice_get xs j ≡ Some (Some id)
     → i ≡ j
-one_runner [] i j id d e f = absurd (none-some (Some id) e)
-one_runner (x ∷ xs) zero zero id d e f = refl
-one_runner (None ∷ xs) zero (suc j) id d e f = absurd (let g : ⊥ = cc in g)
-one_runner (None ∷ xs) (suc i) zero id d e f = absurd (let g : ⊥ = cc in g)
 one_runner (None ∷ xs) (suc i) (suc j) id d e f = ap suc (one_runner xs i j id d e f)
 one_runner (Some x ∷ xs) zero (suc j) id d e f =
     let same : x ≡ id = same_Some x id (same_Some (Some x) (Some id) e) in
@@ -104,16 +87,14 @@ one_runner (Some x ∷ xs) (suc i) zero id d e f =
     let same : x ≡ id = same_Some x id (same_Some (Some x) (Some id) f) in
     absurd (true≢false (sym (has_at [] xs i id e) ∙ ap (has_id (run_ids xs)) (sym same) ∙ d.0))
 one_runner (Some x ∷ xs) (suc i) (suc j) id d e f = ap suc (one_runner xs i j id d.1 e f)
+one_runner each e1 e2 id d e f = grind arith
 
 pub run_there : (xs : List Run) (k : ℕ) (id : Id) → option_and_then (λ run. run) (slice_get xs k) ≡ Some id → slice_get xs k ≡ Some (Some id)
-run_there [] k id e = absurd (none-some id e)
-run_there (x ∷ xs) zero id e = ap Some e
-run_there (x ∷ xs) (suc k) id e = run_there xs k id e
+run_there xs k id e = grind arith
 
 runs_within : (xs : List Run) (k : ℕ) (id : Id) → slice_get xs k ≡ Some (Some id) → k < length xs
-runs_within [] k id e = absurd (none-some (Some id) e)
-runs_within (x ∷ xs) zero id e = omega arith
 runs_within (x ∷ xs) (suc k) id e = let more = runs_within xs k id e in omega (arith, more)
+runs_within each e1 id e = grind arith
 
 -- of a request that a worker runs, the worker of its rank is that one
 pub rank_runs : (s : State) → AreDistinct (s.waiting ++ run_ids s.running)
@@ -150,12 +131,10 @@ module _ (p : Program) (gs : List Event) (s : State) (is : s ≡ after p gs) (wo
 -- ---- and so the move
 
 finish_brief : (forget : Option ℕ) (worker : ℕ) → brief forget (Some (event.Finish worker)) ≡ Some (event.Finish worker)
-finish_brief None worker = refl
-finish_brief (Some n) worker = refl
+finish_brief forget worker = grind arith
 
 finish_timed : (most : Option ℕ) (clock number : ℕ) → timed most clock (Some (event.Finish number)) ≡ Some (event.Finish number)
-finish_timed None clock number = refl
-finish_timed (Some most) clock number = refl
+finish_timed most clock number = grind arith
 
 module _ (p : Program) (asked : Asked) (q : Place) (differ : asked.differ ≡ None) (worker : ℕ) where
   abbrev r : Rules

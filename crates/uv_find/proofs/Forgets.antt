@@ -6,7 +6,6 @@ use Rattle.std.proofs.lemmas.Bool.{and_parts, ltb-true}
 use Rattle.std.proofs.lemmas.Option.{same_Some, none-some}
 use Rattle.uv_ids.specs.declared.event.Event.TheVariants as event
 use Rattle.uv_script.specs.declared.op.Op.{Op}
-use Rattle.uv_script.specs.declared.op.Op.TheVariants as op
 use Rattle.uv_script.specs.Program.{Program, arena_size, worker_count}
 use Rattle.uv_names.specs.Counts.{script_end}
 use Rattle.uv_names.proofs.Counted.{script_before}
@@ -25,11 +24,7 @@ use Rattle.uv_find.proofs.Declaring.{each_at, are_declared}
 -- ---- small numbers
 
 op_short : (o : Op) → is_small_op o ≡ true → IsShortOp LONG o
-op_short (op.Start v timeout repeat) h =
-    let both = and_parts _ _ h in
-    (ltb-true timeout LONG both.0, ltb-true repeat LONG both.1)
-op_short (op.SetRepeat v repeat) h = ltb-true repeat LONG h
-op_short _ h = tt
+op_short o h = grind arith
 
 script_short : (p : Program) → each_op is_small_op p ≡ true → IsShort LONG p
 script_short p small at o e = op_short o (each_at is_small_op p small at o e)
@@ -37,8 +32,7 @@ script_short p small at o e = op_short o (each_at is_small_op p small at o e)
 -- ---- the whole
 
 pub is_absent : {A : Type 0} (o : Option A) → is_none o ≡ true → o ≡ None
-is_absent None e = refl
-is_absent (Some x) e = absurd cc
+is_absent o e = grind arith
 
 ends : (a b c d n : ℕ) → max 1 (max a (max b (max c d))) ≡ n → (a ≤ n) × (b ≤ n) × (c ≤ n) × (d ≤ n) × (1 ≤ n)
 ends a b c d n e = (omega (arith, e), omega (arith, e), omega (arith, e), omega (arith, e), omega (arith, e))
@@ -53,8 +47,7 @@ finishes_common zero = refl
 finishes_common (suc n) = all_front _ (finishes n) (at_will (Step (event.Finish n)) ∷ []) (finishes_common n) refl
 
 aside_common : (offer : Offer) → is_aside offer ≡ true → is_common offer ≡ true
-aside_common (Step (event.Finish worker)) h = refl
-aside_common offer h = h
+aside_common offer h = grind arith
 
 asked_common : (asked : List Offered) → are_aside asked ≡ true → are_common asked ≡ true
 asked_common [] h = refl
@@ -64,8 +57,7 @@ asked_common (o ∷ os) h =
 
 every_common : (at_once : Bool) (workers : ℕ) (asked : List Offered) → are_aside asked ≡ true
     → are_common (every_offer at_once workers asked) ≡ true
-every_common true workers asked h = all_front _ (finishes workers) asked (finishes_common workers) (asked_common asked h)
-every_common false workers asked h = all_front _ (finishes workers) asked (finishes_common workers) (asked_common asked h)
+every_common at_once workers asked h = grind (arith, all_front, finishes_common, asked_common)
 
 forgetting : (p : Program) (asked : Asked) (n : ℕ) → may_forget p asked ≡ true → calls_end p asked ≡ n → CanForget (rules_of p asked) n
 forgetting p asked n may end =

@@ -19,7 +19,7 @@ use Rattle.uv_model.specs.Next.{Moves, next}
 use Rattle.uv_model.specs.State.{State}
 use Rattle.uv_order.specs.Active.{run_ids, AreOpened}
 use Rattle.uv_order.proofs.Reaching.{reached}
-use Rattle.uv_pooled.proofs.Given.{has_at}
+use Rattle.uv_tale.proofs.Given.{has_at}
 use Rattle.uv_apart.specs.Apart.{is_apart}
 use Rattle.uv_apart.proofs.Kept.{loop_keeps}
 use Rattle.uv_apart.proofs.Pool.{finish_next, next_finishes, finishes_apart}

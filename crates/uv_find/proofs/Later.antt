@@ -1,6 +1,5 @@
 -- What may be asked of one timer may be asked of another one, and of another number of ms.
 use Rattle.std.proofs.Common.{◌≡◌, ℕ, true, arith}
-use Rattle.std.proofs.lemmas.Bool.{both_ways}
 use Rattle.uv_ids.specs.declared.id.Var.{Var}
 use Rattle.uv_find.specs.Holding.{asks_late}
 use Rattle.uv_find.specs.Orders.{Rules, asked_late}
@@ -9,25 +8,9 @@ use Rattle.uv_find.specs.Spots.{MayForget, MayHold}
 pub later_forgets : (r : Rules) (name : Var) (ms : ℕ) → MayForget r → MayForget (asked_late r name ms)
 later_forgets r name ms may n some =
     let c = may n some in
-    record {
-      before = c.before;
-      most = c.most;
-      takes = c.takes;
-      question = omega arith;
-      some = c.some;
-      short = c.short;
-      lasts = c.lasts;
-      declares = c.declares;
-      clock = c.clock;
-      differ = c.differ;
-      aside = c.aside;
-    }
+    grind arith
 
 pub later_holds : (r : Rules) (name : Var) (ms : ℕ) → asks_late r.question ≡ true → MayHold r → MayHold (asked_late r name ms)
-later_holds r name ms late may = record {
-  behind_loop = λ ticks h. absurd (both_ways _ (may.behind_loop ticks h).question late);
-  behind_take = λ h. absurd (both_ways _ (may.behind_take h).question late);
-  alike = λ a h. absurd (both_ways _ (may.behind_take (may.alike a h).at_once).question late);
-}
+later_holds r name ms late may = grind arith
 
 pub ruleset asking_later = (later_forgets, later_holds)

@@ -1,5 +1,5 @@
 -- Offers that lead on.
-use Rattle.std.proofs.Common.{◌≡◌, ℕ, zero, suc, ◌<◌, ◌⊎◌, inl, inr, Bool, true, false, ◌&&◌, Some, Ok, is_none, refl, ap, subst, arith}
+use Rattle.std.proofs.Common.{◌≡◌, ℕ, zero, suc, ◌<◌, ◌⊎◌, false, ◌&&◌, Some, Ok, is_none, arith}
 use Rattle.uv_find.specs.Orders.{Rules, Place, Led, led}
 use Rattle.uv_find.specs.Questions.{none_leads}
 use Rattle.uv_find.specs.Spots.{Searched}
@@ -7,14 +7,7 @@ use Rattle.uv_find.specs.Steps.{Takes}
 use Rattle.uv_model.specs.declared.machine.Outcome.{Outcome}
 
 or_last : (k n : ℕ) → k < suc n → (k ≡ n) ⊎ (k < n)
-or_last zero zero l = inl refl
-or_last zero (suc n) l = inr (omega arith)
-or_last (suc k) zero l = absurd (omega arith)
-or_last (suc k) (suc n) l = elim (or_last k n (omega arith)) [ inl e ↦ inl (ap suc e) | inr m ↦ inr (omega arith) ]
-
-and_false : (b : Bool) → (b && false) ≡ false
-and_false true = refl
-and_false false = refl
+or_last k n l = grind arith
 
 -- one of the first offers leads on
 pub leads_some : (r : Rules) (p : Place) (k n : ℕ) (l : Led) → k < n → led r p k ≡ Some l → none_leads r p n ≡ false
@@ -22,10 +15,7 @@ leads_some r p k zero l below goes = absurd (omega arith)
 leads_some r p k (suc n) l below goes = by (or_last k n below) (λ m. leads_some r p k n l m goes)
   where
     by : ((k ≡ n) ⊎ (k < n)) → (k < n → none_leads r p n ≡ false) → (none_leads r p n && is_none (led r p n)) ≡ false
-    by (inl e) more =
-        let here : led r p n ≡ Some l = subst (λ x. led r p x ≡ Some l) e goes in
-        rw here (and_false (none_leads r p n))
-    by (inr m) more = rw (more m) refl
+    by e0 more = grind arith
 
 -- a move that was made is one of them
 pub takes_some : (E : Type 0) (s t : Searched) (number n : ℕ) (o : Outcome) → number < n → Takes {E = E} s number (Ok (Some o)) t

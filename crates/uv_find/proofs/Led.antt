@@ -7,7 +7,7 @@ use Rattle.uv_ids.specs.declared.event.Event.{Event}
 use Rattle.uv_ids.specs.declared.seen.Seen.{Seen}
 use Rattle.uv_model.specs.State.{State}
 use Rattle.uv_model.specs.Next.{Next, Moves, Refuses, next}
-use Rattle.uv_model.specs.After.{after, state_of}
+use Rattle.uv_model.specs.After.{after}
 use Rattle.uv_model.proofs.Runs.{after-push}
 use Rattle.uv_asking.specs.declared.asking.Offered.{Offered}
 use Rattle.uv_find.specs.declared.left.Left.{Left}
@@ -58,13 +58,7 @@ event_at r p number =
 pub choice_is : (r : Rules) → r.differ ≡ None → (p : Place) (number : ℕ)
     → choice_at r p number ≡ chosen (lessened p.left number) p.kept (event_at r p number)
 unfolding choice_at
-choice_is r none p number =
-    ap (λ d. if nat_lt number (move_count r p) then choice_by r p number d else None) none ∙ by (nat_lt number (move_count r p))
-  where
-    by : (b : Bool) → (if b then choice_by r p number None else None)
-        ≡ chosen (lessened p.left number) p.kept (if b then offered_by r p (slice_get r.offers number) (slice_get p.left number) else None)
-    by true = refl
-    by false = refl
+choice_is r none p number = grind arith
 
 -- ---- lists
 
@@ -80,13 +74,7 @@ length_more es e = omega (arith, length-append {A = Event})
 -- ---- what is chosen is brief
 
 brief_is : (forget : Option ℕ) (o : Option Event) (e : Event) → brief forget o ≡ Some e → is_brief forget e ≡ true
-brief_is forget None e h = absurd cc
-brief_is forget (Some x) e h = by (is_brief forget x) refl h where
-  by : (b : Bool) → is_brief forget x ≡ b → (if b then Some x else None) ≡ Some e → is_brief forget e ≡ true
-  by true is same =
-      let one : x ≡ e = cc in
-      subst (λ y. is_brief forget y ≡ true) one is
-  by false is same = absurd cc
+brief_is forget o e h = grind arith
 
 pub offered_brief : (r : Rules) (p : Place) (offered : Option Offered) (x : Option Left) (e : Event) → offered_by r p offered x ≡ Some e →
     is_brief r.forget e ≡ true
@@ -95,17 +83,13 @@ offered_brief r p (Some o) None e h = absurd cc
 offered_brief r p (Some o) (Some x) e h = brief_is r.forget (ranked r.forget p.state (offered_here r.program r.clock p.state p.kept o.offer x)) e h
 
 chosen_is : (xs : List Left) (kept : Kept) (o : Option Event) (c : Choice) → chosen xs kept o ≡ Some c → o ≡ Some c.event
-chosen_is xs kept None c h = absurd cc
-chosen_is xs kept (Some e) c h =
-    let one : ◌≡◌ {A = Choice} (record { event = e; left = xs; kept = kept }) c = cc in
-    ap (λ (x : Choice). Some x.event) one
+chosen_is xs kept o c h = grind arith
 
 pub choice_brief : (r : Rules) (p : Place) (number : ℕ) (c : Choice) → MayForget r → choice_at r p number ≡ Some c → is_brief r.forget c.event ≡ true
 unfolding choice_at
 choice_brief r p number c may h = by r.forget refl where
   within : (b : Bool) → (if b then choice_by r p number r.differ else None) ≡ Some c → choice_by r p number r.differ ≡ Some c
-  within true e = e
-  within false e = absurd cc
+  within b e = grind arith
 
   by : (o : Option ℕ) → r.forget ≡ o → is_brief r.forget c.event ≡ true
   by None none = ap (λ o. is_brief o c.event) none
@@ -123,32 +107,21 @@ brief_more forget (x ∷ xs) e h k = (h.0, brief_more forget xs e h.1 k)
 
 pub state_behind : (r : Rules) (s : Spot) (e : Event) (t : State) (line : Option Seen) → IsSpot r s → next r.program s.place.state e ≡ Moves t line →
     t ≡ after r.program (s.steps ++ e ∷ [])
-state_behind r s e t line is goes =
-    let accepted : next r.program (after r.program s.steps) e ≡ Moves t line = subst (λ x. next r.program x e ≡ Moves t line) is.state goes in
-    sym (after-push r.program s.steps e ∙ ap (state_of (after r.program s.steps)) accepted)
+state_behind r s e t line is goes = grind (arith, after-push)
 
 pub leads_spot : (r : Rules) (s : Spot) (l : Led) → IsSpot r s → LeadsOn r s.place l → is_few r.forget (length s.steps + 1) ≡ true
     → IsSpot r (record { place = l.place; steps = s.steps ++ l.event ∷ [] })
 leads_spot r s l is on few = record {
   state = state_behind r s l.event l.place.state l.line is on.accepted;
   forgets = is.forgets;
-  brief = brief_more r.forget s.steps l.event is.brief
-      (subst (λ e. is_brief r.forget e ≡ true) (sym on.event) (choice_brief r s.place on.number on.choice is.forgets on.offered));
+  brief = grind (arith, brief_more, choice_brief);
   few = ap (is_few r.forget) (length_more s.steps l.event) ∙ few;
 }
 
 -- what a move leads to, and that it may
 pub spot_led : (r : Rules) (s : Spot) (l : Led) (t : Spot) (b : Bool) → spot_of r s (Some l) ≡ Some (t, b)
     → (t ≡ record { place = l.place; steps = s.steps ++ l.event ∷ [] }) × (b ≡ answers r s.place l) × (is_few r.forget (length s.steps + 1) ≡ true)
-spot_led r s l t b e = by (is_few r.forget (length s.steps + 1)) refl e where
-  by : (c : Bool) → is_few r.forget (length s.steps + 1) ≡ c
-      → (if◌then◌else◌ {A = Option (Spot × Bool)} c (Some (record { place = l.place; steps = s.steps ++ l.event ∷ [] }, answers r s.place l)) None)
-      ≡ Some (t, b)
-      → (t ≡ record { place = l.place; steps = s.steps ++ l.event ∷ [] }) × (b ≡ answers r s.place l) × (is_few r.forget (length s.steps + 1) ≡ true)
-  by true is h =
-      let pair : ◌≡◌ {A = Spot × Bool} (record { place = l.place; steps = s.steps ++ l.event ∷ [] }, answers r s.place l) (t, b) = cc in
-      (sym (ap (λ x. x.0) pair), sym (ap (λ x. x.1) pair), is)
-  by false is h = absurd (let f : ⊥ = cc in f)
+spot_led r s l t b e = grind arith
 
 pub spots_lead : (r : Rules) (s : Spot) (i : ℕ) (t : Spot) (b : Bool) → IsSpot r s → i < move_count r s.place
     → next_spot r s i ≡ Some (t, b) → IsSpot r t

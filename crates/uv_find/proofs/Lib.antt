@@ -35,3 +35,4 @@ mod Meeting
 mod Cancelling
 mod AtOnce
 mod Holds
+mod SameOrders

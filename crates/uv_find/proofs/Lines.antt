@@ -1,5 +1,5 @@
 -- What a search reads of a line is the same of a line that leaves out times, ids and the numbers of workers.
-use Rattle.std.proofs.Common.{◌≡◌, ℕ, ◌==◌, Bool, true, false, Option, Some, None, refl, ap, sym, ◌∙◌, arith}
+use Rattle.std.proofs.Common.{◌≡◌, ◌==◌, Bool, true, false, Option, Some, ap, sym, ◌∙◌, arith}
 use Rattle.std.specs.Prelude.{option_map}
 use Rattle.uv_ids.specs.declared.code.Code.{Code}
 use Rattle.uv_ids.specs.declared.id.Var.{Var}
@@ -7,7 +7,7 @@ use Rattle.uv_ids.specs.declared.phase.Phase.{Phase}
 use Rattle.uv_ids.specs.declared.seen.Seen.{Seen}
 use Rattle.uv_ids.specs.declared.seen.Seen.TheVariants as seen
 use Rattle.uv_script.specs.Program.{Program}
-use Rattle.uv_by_name.specs.ByName.{told_line}
+use Rattle.uv_tale.specs.Alike.{told_line}
 use Rattle.uv_workers.specs.Workers.{line_by}
 use Rattle.uv_session.specs.Breaks.{answers_code, begins_section, begins_poll}
 use Rattle.uv_find.specs.Kept.{caller, is_poll}
@@ -20,30 +20,6 @@ plain_line p line = line_by 0 (told_line p line)
 -- two lines that leave out the same, or none
 abbrev pub LinesAlike : Program → Option Seen → Option Seen → Type 0
 LinesAlike p x y = option_map (plain_line p) x ≡ option_map (plain_line p) y
-
--- of which worker they are doesn't matter
-any_worker : (p : Program) (k : ℕ) (l : Seen) → plain_line p (line_by k l) ≡ plain_line p l
-any_worker p k (seen.Take worker v id) = refl
-any_worker p k (seen.Finish worker v id) = refl
-any_worker p k l = refl
-
-plain_alike : (p : Program) (x y : Option Seen) → option_map (told_line p) x ≡ option_map (told_line p) y
-    → option_map (line_by 0) (option_map (told_line p) x) ≡ option_map (line_by 0) (option_map (told_line p) y)
-plain_alike p x y e = ap (option_map (line_by 0)) e
-
-is_plain : (p : Program) (x : Option Seen) → option_map (line_by 0) (option_map (told_line p) x) ≡ option_map (plain_line p) x
-is_plain p None = refl
-is_plain p (Some l) = refl
-
-pub told_alike : (p : Program) (x y : Option Seen) → option_map (told_line p) x ≡ option_map (told_line p) y → LinesAlike p x y
-told_alike p x y e = sym (is_plain p x) ∙ plain_alike p x y e ∙ is_plain p y
-
-pub worker_alike : (p : Program) (k : ℕ) (x y : Option Seen) → option_map (told_line p) (option_map (line_by k) x) ≡ option_map (told_line p) y
-    → LinesAlike p x y
-worker_alike p k x y e = sym (by x) ∙ told_alike p (option_map (line_by k) x) y e where
-  by : (o : Option Seen) → option_map (plain_line p) (option_map (line_by k) o) ≡ option_map (plain_line p) o
-  by None = refl
-  by (Some l) = ap Some (any_worker p k l)
 
 -- by a function that sees none of these
 pub lines_read : {X : Type 0} (f : Seen → X) (p : Program) → ((l : Seen) → f (plain_line p l) ≡ f l) → (l m : Seen) → plain_line p l ≡ plain_line p m

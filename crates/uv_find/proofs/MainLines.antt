@@ -42,8 +42,7 @@ StaysPast n (Moves t line) = n ≤ line_of t.place
 StaysPast n (Refuses why) = Unit {0}
 
 either : (n : ℕ) (b : Bool) (x y : Next) → StaysPast n x → StaysPast n y → StaysPast n (if b then x else y)
-either n true x y h k = h
-either n false x y h k = k
+either n b x y h k = grind arith
 
 module _ (p : Program) (n : ℕ) where
   goes_past : (o : Order) (s : State) (run : Run) (w : Way) → n ≤ run.line → StaysPast n (steps.goes_by o s run w)

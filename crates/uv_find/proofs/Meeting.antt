@@ -1,12 +1,11 @@
 -- Two moves from a place where the first is apart: made in either order they meet.
-use Rattle.std.proofs.Common.{◌≡◌, ℕ, zero, suc, ◌+◌, ◌<◌, ◌==◌, ◌&&◌, ◌||◌, not, Bool, true, false, List, [], ◌∷◌, ◌++◌, length, length-append, nat_lt, slice_get, refl, sym, ap, ap₂, subst, ◌∙◌, Option, Some, None, if◌then◌else◌, arith}
-use Rattle.std.proofs.lemmas.Bool.{and_parts, eq-eqb, ltb-true}
-use Rattle.std.proofs.lemmas.Option.{same_Some, none-some}
+use Rattle.std.proofs.Common.{◌≡◌, ℕ, suc, ◌+◌, ◌<◌, ◌&&◌, ◌||◌, not, Bool, true, false, List, [], ◌∷◌, ◌++◌, length, length-append, nat_lt, slice_get, refl, sym, ap, ap₂, subst, ◌∙◌, Option, Some, None, if◌then◌else◌, arith}
+use Rattle.std.proofs.lemmas.Bool.{and_parts, ltb-true}
+use Rattle.std.proofs.lemmas.Option.{same_Some}
 use Rattle.uv_ids.specs.declared.event.Event.{Event}
 use Rattle.uv_ids.specs.declared.event.Event.TheVariants as event
 use Rattle.uv_ids.specs.declared.event.Event.TheVariants.{Loop}
 use Rattle.uv_ids.specs.declared.seen.Seen.{Seen}
-use Rattle.uv_model.specs.After.{STEPS}
 use Rattle.uv_model.specs.State.{State}
 use Rattle.uv_model.specs.Next.{Next, Moves, Refuses, next}
 use Rattle.uv_alike.specs.Asks.{reads_clock}
@@ -26,7 +25,7 @@ use Rattle.uv_find.specs.Kept.{kept_after, owes}
 use Rattle.uv_find.specs.Orders.{Rules, Place, Choice, Led, led, led_by, placed, chosen, offered_by, may_take, event_of, timed, keeps_clock, brief, is_brief, at_will, taken, reached, is_within, lessened, move_count, move_count_by}
 use Rattle.uv_find.specs.Ranks.{keys_run, ranked}
 use Rattle.uv_find.specs.Questions.{answers, line_answers, place_answers}
-use Rattle.uv_find.specs.Spots.{Spot, CanHold, next_spot, spot_of, spot_code, apart, apart_by, is_loop_first, is_take_first, is_few, IsSpot, IsStanding, HasRoom, IsTold}
+use Rattle.uv_find.specs.Spots.{Spot, CanHold, next_spot, spot_of, spot_code, apart, apart_by, is_loop_first, is_few, IsSpot, IsStanding, HasRoom, IsTold}
 use Rattle.uv_find.proofs.Keys.{keys_stay}
 use Rattle.uv_find.proofs.Led.{event_at, choice_is, spots_lead}
 use Rattle.uv_find.proofs.Covering.{spots_alike}
@@ -86,40 +85,29 @@ pub meet_by : (r : Rules) (s m q : Spot) (b c : Bool) (x y : Led) → m ≡ afte
     → Meet (λ (w : Spot). move_count r w.place) (next_spot r) (spot_code r) (apart r) (after_event s x) (answers r s.place x) (after_event s y)
     (answers r s.place y)
     → Meet (λ (w : Spot). move_count r w.place) (next_spot r) (spot_code r) (apart r) m b q c
-meet_by r s m q b c x y first says second tells met =
-    let M = Meet (λ (w : Spot). move_count r w.place) (next_spot r) (spot_code r) (apart r) in
-    subst (λ w. M w b q c) (sym first) (subst (λ w. M (after_event s x) w q c) (sym says)
-    (subst (λ w. M (after_event s x) (answers r s.place x) w c) (sym second)
-    (subst (λ w. M (after_event s x) (answers r s.place x) (after_event s y) w) (sym tells) met)))
+meet_by r s m q b c x y first says second tells met = grind arith
 
 -- the loop's move is apart where its step is
 pub loop_apart : (r : Rules) (s : Spot) → is_loop_first r s.place ≡ true → apart r s (loop_number r.at_once) ≡ true
-loop_apart r s is =
-    ap (λ c. if c then is_loop_first r s.place else ((loop_number r.at_once == 0) && is_take_first r s.place))
-    (eq-eqb (loop_number r.at_once) (loop_number r.at_once) refl) ∙ is
+loop_apart r s is = grind arith
 
 -- ---- what is offered
 
 pub loop_timed : (most : Option ℕ) (clock : ℕ) → timed most clock (Some Loop) ≡ Some Loop
-loop_timed None clock = refl
-loop_timed (Some n) clock = refl
+loop_timed most clock = grind arith
 
 loop_ranked : (forget : Option ℕ) (s : State) → ranked forget s (Some Loop) ≡ Some Loop
-loop_ranked None s = refl
-loop_ranked (Some n) s = refl
+loop_ranked forget s = grind arith
 
 loop_brief : (forget : Option ℕ) → brief forget (Some Loop) ≡ Some Loop
-loop_brief None = refl
-loop_brief (Some n) = refl
+loop_brief forget = grind arith
 
 pub get_within : {A : Type 0} (xs : List A) (n : ℕ) (x : A) → slice_get xs n ≡ Some x → nat_lt n (length xs) ≡ true
-get_within [] n x e = absurd (none-some x e)
-get_within (y ∷ ys) zero x e = grind arith
 get_within (y ∷ ys) (suc n) x e = let more = get_within ys n x e in grind (arith, more)
+get_within each e1 x e = grind arith
 
 pub not_true : (x : Bool) → not x ≡ true → x ≡ false
-not_true true g = absurd (let h : false ≡ true = g in cc)
-not_true false g = refl
+not_true x g = grind arith
 
 module _ (r : Rules) (ticks : Bool) (can : CanHold r ticks) where
   count_is : (p : Place) → move_count r p ≡ length r.offers
@@ -474,18 +462,10 @@ loop_meets r n s i room first below other m q b c goes comes = by r.hold refl fi
 -- ---- room
 
 pub room_standing : (r : Rules) (n : ℕ) (s : Spot) → IsStanding r s → IsTold r n → HasRoom r n s
-room_standing r n s is told = record {
-  spot = is.spot;
-  holds = is.holds;
-  few = fewer r r.forget (length s.steps + n) (STEPS + n) (omega (arith, is.room)) told;
-}
+room_standing r n s is told = grind arith
 
 pub room_fewer : (r : Rules) (n : ℕ) (s : Spot) → HasRoom r (suc n) s → HasRoom r n s
-room_fewer r n s room = record {
-  spot = room.spot;
-  holds = room.holds;
-  few = fewer r r.forget (length s.steps + n) (length s.steps + suc n) (omega arith) room.few;
-}
+room_fewer r n s room = grind arith
 
 pub room_follows : (r : Rules) (n : ℕ) (s : Spot) (i : ℕ) (t : Spot) (b : Bool) → HasRoom r (suc n) s → i < move_count r s.place
     → next_spot r s i ≡ Some (t, b) → HasRoom r n t
@@ -493,11 +473,7 @@ room_follows r n s i t b room below goes =
     let one = move_is r s t i b goes in
     let long : length t.steps + n ≡ length s.steps + suc n = omega
     (arith, ap (λ (x : Spot). length x.steps) one.1.1, length-append s.steps (one.0.event ∷ [])) in
-    record {
-      spot = spots_lead r s i t b room.spot below goes;
-      holds = room.holds;
-      few = ap (is_few r.forget) long ∙ room.few;
-    }
+    search spots_lead
 
 pub room_same : (r : Rules) (n : ℕ) (s t : Spot) → HasRoom r (suc n) s → HasRoom r (suc n) t → spot_code r s ≡ spot_code r t
     → CoversMoves (λ (x : Spot). move_count r x.place) (next_spot r) (spot_code r) s t

@@ -31,7 +31,7 @@ use Rattle.uv_slots.specs.Buried.{CanBury, is_past_by}
 use Rattle.uv_alike.specs.Contents.{name_in}
 use Rattle.uv_slots.specs.NamedForm.{IsTidy, vacancies, vacant}
 use Rattle.uv_slots.proofs.Orders.{Fits, get_arranged}
-use Rattle.uv_by_name.specs.ByName.{IsRegular}
+use Rattle.uv_tale.specs.Alike.{IsRegular}
 use Rattle.uv_find.proofs.Swap.{swap, swap_length, swap_order, twice_stays}
 
 abbrev pub mirrored : ℕ → State → State

@@ -9,7 +9,6 @@ use Rattle.uv_ids.specs.declared.event.Event.TheVariants.{Loop, Take, Finish, Ca
 use Rattle.uv_ids.specs.declared.id.Id.{Id}
 use Rattle.uv_ids.specs.declared.id.Var.{Var}
 use Rattle.uv_ids.specs.declared.seen.Callback.{Callback}
-use Rattle.uv_ids.specs.declared.seen.Callback.TheVariants as callback
 use Rattle.uv_ids.specs.declared.seen.Seen.{Seen}
 use Rattle.uv_ids.specs.declared.seen.Seen.TheVariants as seen
 use Rattle.uv_ids.specs.declared.seen.Site.TheVariants as site
@@ -33,7 +32,8 @@ use Rattle.uv_alike.specs.Changed.{changed_callback, changed_event, changed_line
 use Rattle.uv_slots.specs.Alike.{moved_var, by_names}
 use Rattle.uv_slots.specs.Arranged.{place_of}
 use Rattle.uv_slots.proofs.Orders.{same_place}
-use Rattle.uv_pooled.proofs.Given.{has_at}
+use Rattle.uv_tale.specs.Alike.{LeadsRegular}
+use Rattle.uv_tale.proofs.Given.{has_at}
 use Rattle.uv_asking.specs.declared.asking.Most.{Most}
 use Rattle.uv_asking.specs.declared.asking.Offer.{Offer}
 use Rattle.uv_asking.specs.declared.asking.Offer.TheVariants as offers
@@ -48,14 +48,14 @@ use Rattle.uv_find.specs.declared.kept.Kept.{Kept}
 use Rattle.uv_find.specs.declared.left.Left.{Left}
 use Rattle.uv_find.specs.declared.left.Left.TheVariants as left
 use Rattle.uv_find.specs.Holding.{are_at_will, is_clear_of_takes}
-use Rattle.uv_find.specs.Kept.{kept_due, is_over, time_at_end, takes_time, owed_by, owed_after, is_poll, nearer, arrived, along_after, kept_after}
+use Rattle.uv_find.specs.Kept.{kept_due, time_at_end, owed_after, is_poll, along_after, kept_after}
 use Rattle.uv_find.specs.Mates.{offer_spares, main_spares, question_spares}
 use Rattle.uv_find.specs.Ops.{is_beside}
-use Rattle.uv_find.specs.Orders.{Rules, Place, Led, led, at_will, lessened, lessened_by, move_count, offered_by, brief, is_called_within, is_within}
+use Rattle.uv_find.specs.Orders.{Rules, Place, Led, led, at_will, first_offer, lessened, lessened_by, move_count, offered_by, brief, is_called_within, is_within}
 use Rattle.uv_find.specs.Questions.{begun, is_which, is_call, is_uncalled, answered_name, name_in, is_name, is_of, answers_line, line_answers, has_ended, place_answers, answers}
 use Rattle.uv_find.specs.Ranks.{rank_of, runner, finish_by}
-use Rattle.uv_find.specs.Spots.{Spot, CanForget, CanTakeAtOnce, AreMates, IsSpot, is_few}
-use Rattle.uv_find.proofs.Alike.{GoesRegular, IsGoing, spot_going}
+use Rattle.uv_find.specs.Spots.{Spot, CanForget, AreOfPool, AreMates, IsSpot, is_few}
+use Rattle.uv_find.proofs.Alike.{IsGoing, spot_going}
 use Rattle.uv_find.proofs.AtOnce.{will_of, wills_stay, not_less, shown, at_will_is, finish_shown}
 use Rattle.uv_find.proofs.Equal.{name_changed}
 use Rattle.uv_find.proofs.Finishing.{rank_runs}
@@ -79,22 +79,10 @@ abbrev pub mirror_led : ℕ → Program → Led → Led
 mirror_led a p l = record { event = l.event; place = mirror a l.place; line = turned_line a p l.line }
 
 twice_event : (a : ℕ) (e : Event) → changed_event (by_names (swap a)) (changed_event (by_names (swap a)) e) ≡ e
-twice_event a Loop = refl
-twice_event a (Take k) = refl
-twice_event a (Finish k) = refl
-twice_event a (Cancel v) = λ i. Cancel (record { 0 = twice_stays a v.0 i })
-twice_event a (Send v) = λ i. Send (record { 0 = twice_stays a v.0 i })
-twice_event a (Io v) = λ i. Io (record { 0 = twice_stays a v.0 i })
-twice_event a (Tick ms) = refl
+twice_event a e = grind (arith, twice_stays)
 
 fits_same : (a : ℕ) (s : State) (e : Event) → ClockFits s e → ClockFits (mirrored a s) e
-fits_same a s Loop h = h
-fits_same a s (Take k) h = h
-fits_same a s (Finish k) h = h
-fits_same a s (Cancel v) h = h
-fits_same a s (Send v) h = h
-fits_same a s (Io v) h = h
-fits_same a s (Tick ms) h = h
+fits_same a s e h = assumption
 
 will_same : (xs : List Left) (i : ℕ) → slice_get xs i ≡ Some left.AtWill → lessened xs i ≡ xs
 will_same xs i at = ap (lessened_by xs i) at ∙ set_same xs i at where
@@ -106,52 +94,17 @@ will_same xs i at = ap (lessened_by xs i) at ∙ set_same xs i at where
 -- ---- what is kept
 
 no_time : (s : State) (b : Callback × Var) → time_at_end [] s b ≡ 0
-no_time s b = by (takes_time b.0 && is_over s.place) where
-  by : (c : Bool) → ◌≡◌ {A = ℕ} (if c then 0 else 0) 0
-  by true = refl
-  by false = refl
-
-owed_same : (a owed : ℕ) (p : Program) (t : State) (line : Option Seen)
-    → owed_after [] owed (mirrored a t) (turned_line a p line) ≡ owed_after [] owed t line
-owed_same a owed p t None = refl
-owed_same a owed p t (Some l) = by l where
-  both : (b c : Callback × Var) → time_at_end [] (mirrored a t) b ≡ time_at_end [] t c
-  both b c = no_time (mirrored a t) b ∙ sym (no_time t c)
-
-  by : (l : Seen) → owed_by [] owed (mirrored a t) (changed_line (by_names (swap a)) p l) ≡ owed_by [] owed t l
-  by (seen.Op (site.Main line) x) = refl
-  by (seen.Op (site.In kind v line) x) = both (kind, moved_var (swap a) v) (kind, v)
-  by (seen.Call v id) = both (callback.Handle, moved_var (swap a) v) (callback.Handle, v)
-  by (seen.Io v id) = both (callback.Handle, moved_var (swap a) v) (callback.Handle, v)
-  by (seen.After digest v id) = both (callback.After, moved_var (swap a) v) (callback.After, v)
-  by (seen.Closed v id) = both (callback.Close, moved_var (swap a) v) (callback.Close, v)
-  by l = refl
+no_time s b = grind arith
 
 poll_same : (a : ℕ) (p : Program) (line : Option Seen) → is_poll (turned_line a p line) ≡ is_poll line
-poll_same a p None = refl
-poll_same a p (Some (seen.Poll timeout)) = refl
-poll_same a p (Some l) = grind arith
+poll_same a p line = grind arith
 
 along_same : (a : ℕ) (p : Program) (recorded : List Recorded) (along : Along) (e : Event) (line : Option Seen)
     → along_after recorded along e (turned_line a p line) ≡ along_after recorded along e line
-along_same a p recorded along Loop line = ap (λ b. arrived recorded (nearer along b)) (poll_same a p line)
-along_same a p recorded along (Take k) line = refl
-along_same a p recorded along (Finish k) line = refl
-along_same a p recorded along (Cancel v) line = refl
-along_same a p recorded along (Send v) line = refl
-along_same a p recorded along (Io v) line = refl
-along_same a p recorded along (Tick ms) line = refl
+along_same a p recorded along each line = grind arith
 
 due_same : (a due : ℕ) (t : State) (q : Question) → question_spares a q ≡ true → kept_due q (mirrored a t) due ≡ kept_due q t due
-due_same a due t (asks.Late name ms) e = absurd (let f : false ≡ true = e in cc)
-due_same a due t (asks.Call w name call) e = refl
-due_same a due t (asks.Code code name) e = refl
-due_same a due t (asks.Section word) e = refl
-due_same a due t asks.Poll e = refl
-due_same a due t (asks.Never name) e = refl
-due_same a due t asks.Stuck e = refl
-due_same a due t (asks.Before name other) e = refl
-due_same a due t (asks.Behind name other) e = refl
+due_same a due t each e = grind arith
 
 -- ---- what a line answers
 
@@ -297,14 +250,14 @@ kept_same : (r : Rules) (a : ℕ) → AreMates r a → r.takes ≡ [] → (k : K
 kept_same r a mates none k e t line =
     let owed : owed_after r.takes k.owed (mirrored a t) (turned_line a r.program line) ≡ owed_after r.takes k.owed t line =
     subst (λ ts. owed_after ts k.owed (mirrored a t) (turned_line a r.program line) ≡ owed_after ts k.owed t line) (sym none)
-    (owed_same a k.owed r.program t line) in
+    (grind arith) in
     let due = due_same a k.due t r.question mates.question in
     let along = along_same a r.program r.recorded k.along e line in
     λ i. record { due = due i; owed = owed i; along = along i }
 
 -- ---- where the names have changed places
 
-module _ (change : NamesChange) (r : Rules) (a : ℕ) (mates : AreMates r a) (take : CanTakeAtOnce r) (may : CanForget r take.counted) where
+module _ (change : NamesChange) (r : Rules) (a : ℕ) (mates : AreMates r a) (take : AreOfPool r) (may : CanForget r take.counted) where
   -- the names may change places here, and wherever steps lead
   pub record CanMirror (q : Spot) : Type 0 where
     pub spot : IsSpot r q
@@ -321,8 +274,8 @@ module _ (change : NamesChange) (r : Rules) (a : ℕ) (mates : AreMates r a) (ta
   pub wide : (q : Spot) → IsSpot r q → a + 2 ≤ length q.place.state.names
   wide q is = wide_after q.steps q.place.state is.state
 
-  goes_regular : (q : Spot) → IsSpot r q → (e : Event) (x : Next) → next r.program q.place.state e ≡ x → GoesRegular r.program x
-      → GoesRegular r.program (mirrored_next r.program a x)
+  goes_regular : (q : Spot) → IsSpot r q → (e : Event) (x : Next) → next r.program q.place.state e ≡ x → LeadsRegular r.program x
+      → LeadsRegular r.program (mirrored_next r.program a x)
   goes_regular q is e (Moves t line) goes h =
       mirrored_regular a t (wide_after (q.steps ++ e ∷ []) t (state_behind r q e t line is goes)) r.program h
   goes_regular q is e (Refuses why) goes h = tt
@@ -335,8 +288,8 @@ module _ (change : NamesChange) (r : Rules) (a : ℕ) (mates : AreMates r a) (ta
         fits = λ e short. fits_same a q.place.state e (going.fits e short);
         leads = λ e.
             let back = changed_event (by_names (swap a)) e in
-            subst (λ f. GoesRegular r.program (next r.program (mirrored a q.place.state) f)) (twice_event a e)
-            (subst (GoesRegular r.program)
+            subst (λ f. LeadsRegular r.program (next r.program (mirrored a q.place.state) f)) (twice_event a e)
+            (subst (LeadsRegular r.program)
             (sym (next_mirrored a change r.program q.place.state back (are_alike r a mates q.place.state (wide q can.spot) can.clear)))
             (goes_regular q can.spot back (next r.program q.place.state back) refl (going.leads back)));
       }
@@ -430,6 +383,10 @@ module _ (change : NamesChange) (r : Rules) (a : ℕ) (mates : AreMates r a) (ta
     by None run h = absurd (none-some e h)
     by (Some w) run h = (w, run, sym (same_Some (Finish w) e h))
 
+  first_free : (b : Bool) → IsFree (first_offer b) × (offer_spares a (first_offer b) ≡ true)
+  first_free true = (tt, refl)
+  first_free false = (tt, refl)
+
   offered_there : (q : Place) (i : ℕ) (e : Event) → event_at r q i ≡ Some e → (o : Offered) × (slice_get r.offers i ≡ Some o)
   offered_there q i e is = by (nat_lt i (move_count r q)) (slice_get r.offers i) refl is where
     by : (b : Bool) (o : Option Offered) → slice_get r.offers i ≡ o → (if b then offered_by r q o (slice_get q.left i) else None) ≡ Some e
@@ -439,8 +396,12 @@ module _ (change : NamesChange) (r : Rules) (a : ℕ) (mates : AreMates r a) (ta
     by true (Some o) at h = (o, at)
 
   pub turns : (q : Spot) → CanMirror q → (i : ℕ) (e : Event) → event_at r q.place i ≡ Some e → Turns q i e
-  turns q can zero e is = free_turns q can 0 (at_will offers.Take) e take.take tt refl is
-  turns q can (suc zero) e is = free_turns q can 1 (at_will (offers.Step Loop)) e take.loop tt refl is
+  turns q can zero e is =
+      let free = first_free r.at_once in
+      free_turns q can 0 (at_will (first_offer r.at_once)) e take.first free.0 free.1 is
+  turns q can (suc zero) e is =
+      let free = first_free (not r.at_once) in
+      free_turns q can 1 (at_will (first_offer (not r.at_once))) e take.second free.0 free.1 is
   turns q can (suc (suc k)) e is = by (nat_lt k (worker_count r.program)) refl where
     by : (b : Bool) → nat_lt k (worker_count r.program) ≡ b → Turns q (suc (suc k)) e
     by true below =

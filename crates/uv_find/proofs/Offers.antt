@@ -1,15 +1,12 @@
 -- Where the finishes stand among the offers.
-use Rattle.std.proofs.Common.{◌≡◌, Bool, true, false, ℕ, zero, suc, ◌<◌, ◌⊎◌, inl, inr, List, [], ◌∷◌, ◌++◌, length, slice_get, refl, sym, ap, subst, ◌∙◌, Some, append_assoc, length-append, arith}
+use Rattle.std.proofs.Common.{◌≡◌, Bool, ℕ, zero, suc, ◌<◌, ◌⊎◌, inl, inr, List, [], ◌∷◌, ◌++◌, length, slice_get, refl, sym, ap, subst, ◌∙◌, Some, append_assoc, length-append, arith}
 use Rattle.uv_ids.specs.declared.event.Event.TheVariants as event
 use Rattle.uv_asking.specs.declared.asking.Offer.TheVariants.{Step}
 use Rattle.uv_asking.specs.declared.asking.Offered.{Offered}
 use Rattle.uv_find.specs.Orders.{at_will, first_offers, finishes}
 
 pub or_last : (k n : ℕ) → k < suc n → (k ≡ n) ⊎ (k < n)
-or_last zero zero l = inl refl
-or_last zero (suc n) l = inr (omega arith)
-or_last (suc k) zero l = absurd (omega arith)
-or_last (suc k) (suc n) l = elim (or_last k n (omega arith)) [ inl e ↦ inl (ap suc e) | inr m ↦ inr (omega arith) ]
+or_last k n l = grind arith
 
 at_length : (xs ys : List Offered) (x : Offered) → slice_get (xs ++ x ∷ ys) (length xs) ≡ Some x
 at_length [] ys x = refl
@@ -35,10 +32,8 @@ finish_in (suc n) k ys below = ap (λ xs. slice_get xs k) (append_assoc (finishe
 
 -- they stand behind the first two, in either order of these
 pub offers_are : (at_once : Bool) (xs ys : List Offered) → first_offers at_once ++ xs ++ ys ≡ first_offers at_once ++ (xs ++ ys)
-offers_are true xs ys = refl
-offers_are false xs ys = refl
+offers_are at_once xs ys = assumption
 
 pub behind_first : (at_once : Bool) (xs ys : List Offered) (i : ℕ)
     → slice_get (first_offers at_once ++ xs ++ ys) (suc (suc i)) ≡ slice_get (xs ++ ys) i
-behind_first true xs ys i = refl
-behind_first false xs ys i = refl
+behind_first at_once xs ys i = assumption

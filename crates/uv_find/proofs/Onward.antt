@@ -10,8 +10,8 @@ use Rattle.uv_ids.specs.declared.seen.Seen.{Seen}
 use Rattle.uv_ids.specs.declared.seen.Seen.TheVariants as seen
 use Rattle.uv_script.specs.Program.{Program, is_for}
 use Rattle.uv_model.specs.State.{State}
-use Rattle.uv_normal.specs.Normal.{calls_timer}
-use Rattle.uv_by_name.specs.ByName.{by_name, IsRegular}
+use Rattle.uv_tale.specs.Alike.{calls_timer, IsRegular}
+use Rattle.uv_tale.specs.Tale.{tale}
 use Rattle.uv_asking.specs.declared.asking.Which.{Which}
 use Rattle.uv_asking.specs.declared.asking.Which.TheVariants as which
 use Rattle.uv_asking.specs.declared.asking.Question.{Question}
@@ -26,18 +26,15 @@ use Rattle.uv_find.specs.Questions.{begun, is_which, is_call, is_uncalled, answe
 use Rattle.uv_find.specs.Spots.{CanForget}
 use Rattle.uv_find.proofs.Alike.{DueAlike, both}
 use Rattle.uv_find.proofs.Lines.{LinesAlike, plain_line, lines_read, plain_caller, plain_begun, plain_answered, plain_code, plain_section, plain_poll, plain_is_poll, is_tick, plain_tick}
-use Rattle.uv_by_name.proofs.Reading.{Reads}
+use Rattle.uv_tale.proofs.Reading.{Reads}
 use Rattle.uv_find.proofs.Readings.{count, reads_count, meant_capped, none_capped, taken_capped, reads_over}
 
 lines_by : {X : Type 0} (p : Program) (f : Option Seen → X) → ((l m : Seen) → plain_line p l ≡ plain_line p m → f (Some l) ≡ f (Some m)) →
     (x y : Option Seen) → LinesAlike p x y → f x ≡ f y
-lines_by p f same None None e = refl
-lines_by p f same None (Some m) e = absurd (none-some (plain_line p m) e)
-lines_by p f same (Some l) None e = absurd (none-some (plain_line p l) (sym e))
-lines_by p f same (Some l) (Some m) e = same l m (same_Some (plain_line p l) (plain_line p m) e)
+lines_by p f same each e4 e = grind arith
 
 module _ (r : Rules) (n : ℕ) (forget : r.forget ≡ Some n) (can : CanForget r n) (a b : State) (ra : IsRegular r.program a)
-    (rb : IsRegular r.program b) (same : by_name r.program n a ≡ by_name r.program n b) where
+    (rb : IsRegular r.program b) (same : tale n a ≡ tale n b) where
   read : {X : Type 0} (R : State → X) → Reads n R → R a ≡ R b
   read R reads = both r n forget can a b ra rb same R reads
 

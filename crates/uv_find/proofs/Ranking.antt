@@ -9,9 +9,9 @@ use Rattle.uv_ids.specs.declared.id.Id.{Id}
 use Rattle.uv_records.specs.declared.slot.Slot.{Slot}
 use Rattle.uv_work.specs.declared.content.Content.{Content}
 use Rattle.uv_model.specs.State.{State}
-use Rattle.uv_workers.specs.Workers.{id_le, run_le, with_run, ordered}
-use Rattle.uv_tale.specs.Tale.{name_at, as_id}
-use Rattle.uv_find.specs.Ranks.{key_at, run_in, runs_before, count_before, rank_in}
+use Rattle.uv_workers.specs.Workers.{id_le, with_run, ordered}
+use Rattle.uv_tale.specs.Tale.{name_at, as_id, run_names}
+use Rattle.uv_find.specs.Ranks.{key_at, run_in, count_before, rank_in}
 
 abbrev pub Run : Type 0
 Run = Option Id
@@ -99,21 +99,12 @@ rank_next key xs k within = to xs k within ∙ ap (λ n. rank_in (take n xs) key
   to : (ys : List Run) (j : ℕ) → j < length ys → rank_in (take j ys) key + count_before key (run_in ys j) ≡ rank_in (take (suc j) ys) key
   to [] j less = absurd (omega (arith, less))
   to (y ∷ ys) zero less = none (count_before key y)
-  to (y ∷ ys) (suc j) less =
-      more_by (count_before key y) (rank_in (take j ys) key) (count_before key (run_in ys j)) (rank_in (take (suc j) ys) key)
-      (to ys j (omega (arith, less)))
+  to (y ∷ ys) (suc j) less = grind (arith, (to ys j (omega (arith, less))))
 
 -- in which order they are run says nothing of them
 rank_with : (x : Run) (xs : List Run) (key : Id) → rank_in (with_run x xs) key ≡ rank_in (x ∷ xs) key
 rank_with x [] key = refl
-rank_with x (y ∷ ys) key = by (run_le x y) (rank_with x ys key) where
-  swaps : (a b c d : ℕ) → d ≡ a + c → b + d ≡ a + (b + c)
-  swaps a b c d e = omega (arith, e)
-
-  by : (b : Bool) → rank_in (with_run x ys) key ≡ rank_in (x ∷ ys) key
-      → rank_in (if b then x ∷ y ∷ ys else y ∷ with_run x ys) key ≡ rank_in (x ∷ y ∷ ys) key
-  by true more = refl
-  by false more = swaps (count_before key x) (count_before key y) (rank_in ys key) (rank_in (with_run x ys) key) more
+rank_with x (y ∷ ys) key = grind (arith, (rank_with x ys key))
 
 pub rank_ordered : (xs : List Run) (key : Id) → rank_in (ordered xs) key ≡ rank_in xs key
 rank_ordered [] key = refl
@@ -122,9 +113,7 @@ rank_ordered (x ∷ xs) key = rank_with x (ordered xs) key ∙ ap (λ n. count_b
 -- ---- that of what comes later is no less, and more where a request comes between
 
 id_itself : (a : Id) → id_le a a ≡ true
-id_itself a = by a.slot a.generation where
-  by : (n g : ℕ) → (nat_lt n n || ((n == n) && nat_le g g)) ≡ true
-  by n g = grind (arith, nat_tests)
+id_itself a = grind arith
 
 later_by : (a g b h c i : ℕ) → (nat_lt a b || ((a == b) && nat_le g h)) ≡ true → (nat_lt a c || ((a == c) && nat_le g i)) ≡ false
     → (nat_lt b c || ((b == c) && nat_le h i)) ≡ false
@@ -138,15 +127,7 @@ both_by : (a g b h : ℕ) → (nat_lt a b || ((a == b) && nat_le g h)) ≡ true 
 both_by a g b h le ge = (grind (arith, nat_tests), grind (arith, nat_tests))
 
 one_later : (x : Run) (m n : Id) → id_le m n ≡ true → count_before m x ≤ count_before n x
-one_later None m n le = omega arith
-one_later (Some id) m n le =
-    by (id_le m id) (id_le n id) (λ less. later_by m.slot m.generation n.slot n.generation id.slot id.generation le less)
-  where
-    by : (p q : Bool) → (p ≡ false → q ≡ false) → if◌then◌else◌ {A = ℕ} (not p) 1 0 ≤ if◌then◌else◌ {A = ℕ} (not q) 1 0
-    by true true h = omega arith
-    by true false h = omega arith
-    by false false h = omega arith
-    by false true h = absurd (let f : true ≡ false = h refl in cc)
+one_later x m n le = grind (arith, later_by)
 
 -- a request isn't before itself, and it is before what it doesn't come behind
 not_before : (x : Run) (id : Id) → x ≡ Some id → count_before id x ≡ 0
@@ -166,27 +147,21 @@ one_lt a b c d e f g = omega (arith, e, f, g)
 
 rank_later : (xs : List Run) (m n : Id) → id_le m n ≡ true → rank_in xs m ≤ rank_in xs n
 rank_later [] m n le = omega arith
-rank_later (x ∷ xs) m n le =
-    sum_le (count_before m x) (count_before n x) (rank_in xs m) (rank_in xs n) (one_later x m n le) (rank_later xs m n le)
+rank_later (x ∷ xs) m n le = search (sum_le, one_later, (rank_later xs m n le))
 
 rank_more : (xs : List Run) (j : ℕ) (id key : Id) → slice_get xs j ≡ Some (Some id) → id_le key id ≡ false → rank_in xs id < rank_in xs key
-rank_more [] j id key there less = absurd (none-some (Some id) there)
-rank_more (x ∷ xs) zero id key there less =
-    let same = same_Some x (Some id) there in
-    one_lt (count_before id x) (count_before key x) (rank_in xs id) (rank_in xs key) (not_before x id same) (is_before x id key same less)
-    (rank_later xs id key (total_by key.slot key.generation id.slot id.generation less))
 rank_more (x ∷ xs) (suc j) id key there less =
     sum_lt (count_before id x) (count_before key x) (rank_in xs id) (rank_in xs key)
     (one_later x id key (total_by key.slot key.generation id.slot id.generation less)) (rank_more xs j id key there less)
+rank_more each e1 id key there less =
+    grind (arith, none-some, same_Some, one_lt, not_before, is_before, rank_later, total_by, sum_lt, one_later)
 
 -- requests of one rank come at one place
 pub rank_one : (xs : List Run) (i j : ℕ) (a b : Id) → slice_get xs i ≡ Some (Some a) → slice_get xs j ≡ Some (Some b) →
     rank_in xs a ≡ rank_in xs b → a ≡ b
 rank_one xs i j a b at_a at_b same = by (id_le a b) (id_le b a) refl refl where
   by : (p q : Bool) → id_le a b ≡ p → id_le b a ≡ q → a ≡ b
-  by true true le ge =
-      let both = both_by a.slot a.generation b.slot b.generation le ge in
-      λ i. record { slot = both.0 i; generation = both.1 i }
+  by true true le ge = grind (arith, both_by)
   by true false le other =
       let l = rank_more xs i a b at_a other in
       absurd (omega (arith, l, same))
@@ -196,10 +171,7 @@ rank_one xs i j a b at_a at_b same = by (id_le a b) (id_le b a) refl refl where
 
 -- a rank is one of as many as there are workers
 pub one_most : (key : Id) (x : Run) → count_before key x ≤ 1
-one_most key x = by (runs_before key x) where
-  by : (b : Bool) → if◌then◌else◌ {A = ℕ} b 1 0 ≤ 1
-  by true = omega arith
-  by false = omega arith
+one_most key x = grind arith
 
 most_by : (a b c : ℕ) → a ≤ 1 → b ≤ c → a + b ≤ suc c
 most_by a b c e f = omega (arith, e, f)
@@ -215,11 +187,9 @@ within_more : (a b c : ℕ) → a ≤ 1 → b < c → a + b < suc c
 within_more a b c e f = omega (arith, e, f)
 
 pub rank_within : (xs : List Run) (j : ℕ) (id : Id) → slice_get xs j ≡ Some (Some id) → rank_in xs id < length xs
-rank_within [] j id there = absurd (none-some (Some id) there)
-rank_within (x ∷ xs) zero id there =
-    within_here (count_before id x) (rank_in xs id) (length xs) (not_before x id (same_Some x (Some id) there)) (rank_most xs id)
 rank_within (x ∷ xs) (suc j) id there =
     within_more (count_before id x) (rank_in xs id) (length xs) (one_most id x) (rank_within xs j id there)
+rank_within each e1 id there = grind (arith, none-some, within_here, not_before, same_Some, rank_most, within_more, one_most)
 
 pub equal_is : (m n : ℕ) → m ≡ n → (m == n) ≡ true
 equal_is m n e = grind (arith, nat_tests)
@@ -228,13 +198,13 @@ equal_is m n e = grind (arith, nat_tests)
 
 -- what the workers run, by names
 abbrev pub called : State → List Run
-called s = map (option_map (λ (id : Id). as_id (name_at s.arena.slots id))) s.running
+called s = run_names s.arena.slots s.running
 
 -- where no two of a name are run, its rank is that of the name
 pub rank_by_name : (slots : List (Slot Content)) (xs : List Run) (name slot : ℕ) →
     ((j : ℕ) (id : Id) → slice_get xs j ≡ Some (Some id) → name_at slots id ≡ name → id.slot ≡ slot) →
     rank_in (map (option_map (key_at slots)) xs) (record { slot = name; generation = slot })
-    ≡ rank_in (map (option_map (λ (id : Id). as_id (name_at slots id))) xs) (as_id name)
+    ≡ rank_in (run_names slots xs) (as_id name)
 rank_by_name slots [] name slot each = refl
 rank_by_name slots (None ∷ xs) name slot each = ap (λ n. 0 + n) (rank_by_name slots xs name slot (λ j. each (suc j)))
 rank_by_name slots (Some id ∷ xs) name slot each =

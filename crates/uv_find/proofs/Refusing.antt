@@ -13,7 +13,7 @@ use Rattle.uv_model.specs.State.{State}
 use Rattle.uv_script.specs.Program.{Program}
 use Rattle.uv_find.specs.declared.kept.Kept.{Kept}
 use Rattle.uv_find.specs.declared.left.Left.{Left}
-use Rattle.uv_find.specs.Orders.{Rules, Place, Choice, chosen, choice_at, choice_by, deadline_at, event_of, keeps_clock, led, led_by, lessened, may_take, move_count, offered_by, placed, reached, timed, wait_until, is_brief, brief, may_last, wait_for, is_blocked}
+use Rattle.uv_find.specs.Orders.{Rules, Place, Choice, chosen, choice_at, choice_by, event_of, keeps_clock, led, led_by, lessened, may_take, move_count, offered_by, placed, reached, timed, wait_until, is_brief, brief, may_last, wait_for, is_blocked}
 use Rattle.uv_find.specs.Ranks.{runner, finish_by, ranked}
 use Rattle.uv_find.specs.Steps.{runs_none, has_none, is_idle}
 
@@ -63,9 +63,7 @@ has_none_led : (r : Rules) (p : Place) (xs : List Left) (offer : Offer) → has_
     → led_by r p (chosen xs p.kept (ranked r.forget p.state (timed r.clock p.state.clock (event_of r.program p.state p.kept offer)))) ≡ None
 has_none_led r p xs (Step (event.Finish number)) e =
     rw (finish_keeps r.clock p.state.clock number) (finish_none r p xs r.forget number e)
-has_none_led r p xs Wait e =
-    ap (λ o. led_by r p (chosen xs p.kept (ranked r.forget p.state (timed r.clock p.state.clock o)))) (none_waits r p (deadline_at p.state.place) e)
-    ∙ ap (λ o. led_by r p (chosen xs p.kept o)) (none_ranked r.forget p.state)
+has_none_led r p xs Wait e = simp (none_waits, none_ranked)
 has_none_led r p xs (WaitFor ms) e =
     ap (λ o. led_by r p (chosen xs p.kept (ranked r.forget p.state (timed r.clock p.state.clock o)))) (none_lasts r.program p.state ms e)
     ∙ ap (λ o. led_by r p (chosen xs p.kept o)) (none_ranked r.forget p.state)
@@ -82,14 +80,13 @@ brief_none r p xs (Some e) h = by (is_brief r.forget e) where
 
 idle_by : (r : Rules) (p : Place) (xs : List Left) (offered : Option Offered) (x : Option Left) → is_idle r.forget p.state offered x ≡ true
     → led_by r p (chosen xs p.kept (offered_by r p offered x)) ≡ None
-idle_by r p xs None x e = refl
-idle_by r p xs (Some offered) None e = refl
 idle_by r p xs (Some offered) (Some x) e = by (may_take x) refl where
   by : (b : Bool) → may_take x ≡ b → led_by r p (chosen xs p.kept (offered_by r p (Some offered) (Some x))) ≡ None
   by true may =
       rw may (brief_none r p xs (ranked r.forget p.state (timed r.clock p.state.clock (event_of r.program p.state p.kept offered.offer)))
       (has_none_led r p xs offered.offer (rw may at e)))
   by false may = rw may (ap (λ o. led_by r p (chosen xs p.kept (brief r.forget o))) (none_ranked r.forget p.state))
+idle_by r p xs each e4 e = assumption
 
 -- a spent offer, and one without an event that leads on, leads nowhere
 pub idle_leads_nowhere : (r : Rules) (p : Place) (number : ℕ) → r.differ ≡ None

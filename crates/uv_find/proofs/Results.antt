@@ -8,9 +8,9 @@ use Rattle.uv_search.specs.Keys.{Has}
 use Rattle.uv_search.specs.Settled as settled
 use Rattle.uv_find.specs.declared.finding.Answer.TheVariants as answer
 use Rattle.uv_script.specs.Program.{worker_count}
-use Rattle.uv_find.specs.Holding.{are_at_will, loop_number}
+use Rattle.uv_find.specs.Holding.{are_at_will, is_empty, loop_number}
 use Rattle.uv_find.specs.Kept.{owes}
-use Rattle.uv_find.specs.Mates.{later_rank, is_covered_by}
+use Rattle.uv_find.specs.Mates.{is_covered}
 use Rattle.uv_find.specs.Orders.{Rules, Place, Led, move_count}
 use Rattle.uv_find.specs.Courses as courses
 use Rattle.uv_find.specs.Courses.{Course, KeptCourse, AnswersBy}
@@ -22,13 +22,17 @@ use Rattle.uv_find.proofs.Telling.{places_tell}
 use Rattle.uv_find.proofs.Moving.{LeadsTo, fewer, after_event, move_is, event_move, moves_course, course_moves, moves_answer, course_answers}
 
 neither_one : (b c : Bool) → (b || c) ≡ false → (b ≡ false) × (c ≡ false)
-neither_one true c e = absurd (let f : true ≡ false = e in cc)
-neither_one false true e = absurd (let f : true ≡ false = e in cc)
-neither_one false false e = (refl, refl)
+neither_one each e1 e = grind arith
 
 neither : (b : Bool) → (b && false) ≡ false
-neither true = refl
-neither false = refl
+neither b = grind arith
+
+no_mates : (mates : List Bool) → not (is_empty mates) ≡ false → mates ≡ []
+no_mates mates e = grind arith
+
+-- where no two names are alike, no move is covered
+covered_none : (r : Rules) (q : Place) → r.mates ≡ [] → (number : ℕ) → is_covered r q number ≡ false
+covered_none r q none number = grind (arith, neither)
 
 module _ (r : Rules) (s : Spot) where
   abbrev AreKeys : ℕ → List (List ℕ) → Type 0
@@ -106,16 +110,15 @@ module _ (r : Rules) (s : Spot) where
       → settled.HoldsNone (λ (a : Spot). move_count r a.place) (next_spot r) (spot_code r) IsDeep (apart r) (covered r) (IsTold r) s
   holds_none none is q k led = (
     by (k == loop_number r.at_once),
-    ap (λ b. b && is_covered_by r q.place (later_rank (worker_count r.program) k))
-        (neither_one (is_some r.hold) r.at_once none).1,
+    covered_none r q.place (no_mates r.mates (neither_one r.at_once (not (is_empty r.mates)) (neither_one (is_some r.hold) _ none).1).1) k,
   ) where
     by : (b : Bool) → (if b then is_loop_first r q.place else ((k == 0) && is_take_first r q.place)) ≡ false
-    by true = loop_none r.hold (neither_one (is_some r.hold) r.at_once none).0 where
+    by true = loop_none r.hold (neither_one (is_some r.hold) _ none).0 where
       loop_none : (o : Option Bool) → is_some o ≡ false → apart_by o r.program (loop_number r.at_once) q.place ≡ false
       loop_none None e = refl
       loop_none (Some ticks) e = absurd (let f : true ≡ false = e in cc)
     by false = ap (λ b. (k == 0) && (b && (are_at_will (worker_count r.program + 2) q.place.left && not (owes q.place.kept))))
-        (neither_one (is_some r.hold) r.at_once none).1 ∙ neither (k == 0)
+        (neither_one r.at_once (not (is_empty r.mates)) (neither_one (is_some r.hold) _ none).1).0 ∙ neither (k == 0)
 
   mute : (number : ℕ) → IsNone number → (es : List Event) (l : Led) → is_told r (length s.steps + length es + 1) ≡ true
       → courses.Answers r s.place es l → ⊥
@@ -197,9 +200,7 @@ module _ (r : Rules) (s : Spot) where
 
 -- where the same moves were taken back, it is the same
 pub same_back : {X : Type 0} (p u : X) (ps us xs : List X) → xs ≡ p ∷ ps → xs ≡ u ∷ us → u ≡ p
-same_back p u ps us xs e f =
-    let one : u ∷ us ≡ p ∷ ps = sym f ∙ e in
-    cc
+same_back p u ps us xs e f = cc
 
 -- ---- keys
 
@@ -212,10 +213,7 @@ course_spot r s (e ∷ es) q is few (l, is_event, on, rest) =
     course_spot r (after_event s l) es q (leads_spot r s l is on first) (ap (is_few r.forget) long ∙ few) rest
 
 first_is : (r : Rules) → MayForget r → IsSpot r (first_spot r)
-first_is r may = record { state = sym (after-nil r.program); forgets = may; brief = tt; few = by r.forget } where
-  by : (o : Option ℕ) → is_few o 0 ≡ true
-  by None = refl
-  by (Some n) = refl
+first_is r may = grind (arith, after-nil)
 
 pub keys_tell : KeysTell
 keys_tell r es fs p q may few more c d same =

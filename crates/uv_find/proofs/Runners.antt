@@ -1,4 +1,4 @@
--- Workers of two states that have the same form by their names: of each rank they run the same.
+-- Workers of two states of which the same is told: of each rank they run requests of one name.
 use Rattle.std.proofs.Common.{◌≡◌, ℕ, zero, suc, ◌⊎◌, inl, inr, ◌<◌, List, [], ◌∷◌, true, false, length, is_none, slice_get, slice_set, refl, ap, sym, subst, ◌∙◌, Option, Some, None, Result, Ok, Err}
 use Rattle.std.specs.Prelude.{map, option_map}
 use Rattle.std.proofs.lemmas.Bool.{eqb-true}
@@ -8,37 +8,28 @@ use Rattle.uv_ids.specs.declared.event.Event.{Event}
 use Rattle.uv_ids.specs.declared.event.Event.TheVariants.{Loop, Take, Finish, Cancel, Send, Io, Tick}
 use Rattle.uv_ids.specs.declared.fault.Why.{Why}
 use Rattle.uv_ids.specs.declared.id.Id.{Id}
-use Rattle.uv_script.specs.Program.{Program, arena_size, worker_count}
+use Rattle.uv_script.specs.Program.{Program, worker_count}
 use Rattle.uv_work.specs.declared.request.Request.{Request}
 use Rattle.uv_model.specs.After.{after, goes_on, state_of}
 use Rattle.uv_model.specs.Next as steps
 use Rattle.uv_model.specs.Next.{Next, Moves, Refuses, next}
 use Rattle.uv_model.specs.State.{State, fresh, named}
-use Rattle.uv_generations.specs.Renamed.{rename}
-use Rattle.uv_normal.specs.Normal.{normal}
 use Rattle.uv_workers.specs.Workers.{is_of_worker, ordered}
-use Rattle.uv_slots.specs.Arranged.{arranged_id}
-use Rattle.uv_slots.specs.Buried.{buried}
 use Rattle.uv_alike.specs.Contents.{name_in}
-use Rattle.uv_slots.specs.NamedForm.{named_order}
 use Rattle.uv_workers.proofs.Frame.{put_next, next_same}
-use Rattle.uv_workers.proofs.Steps.{workers_alike}
-use Rattle.uv_pooled.proofs.Given.{has_at}
-use Rattle.uv_pooled.proofs.Steps.{renaming}
-use Rattle.uv_by_name.specs.ByName.{settled, by_name, IsRegular}
-use Rattle.uv_by_name.proofs.Reading.{sees_normal, reads_alike}
-use Rattle.uv_tale.specs.Tale.{number_of, name_at, as_id}
+use Rattle.uv_tale.proofs.Given.{has_at}
+use Rattle.uv_tale.specs.Alike.{IsRegular}
+use Rattle.uv_workers.proofs.Runs.{found_alike}
+use Rattle.uv_tale.specs.Tale.{number_of, name_at, as_id, Tale, tale}
 use Rattle.uv_find.specs.Orders.{take_by}
 use Rattle.uv_find.specs.Ranks.{key_at, keys_run, idle_worker, rank_in, rank_of, is_of_rank, runner, finish_by}
 use Rattle.uv_find.proofs.Ranking.{Run, equal_is, first_at, first_some, rank_ordered, rank_one, rank_within, called, rank_by_name}
-use Rattle.uv_find.proofs.Readings.{sees_called, reads_called}
 
 -- ---- how many they are
 
 set_long : (xs : List Run) (k : ℕ) (x : Run) → length (slice_set xs k x) ≡ length xs
-set_long [] k x = refl
-set_long (y ∷ ys) zero x = refl
 set_long (y ∷ ys) (suc k) x = ap suc (set_long ys k x)
+set_long each e1 x = assumption
 
 abbrev workers_in : ℕ → Next → ℕ
 workers_in n (Moves s line) = length s.running
@@ -81,36 +72,36 @@ after_long p es = goes_long p (fresh p) es ∙ length-replicate (worker_count p)
 
 -- ---- events that do alike
 
--- two workers run the same in the forms, nothing or one request
-abbrev pub RunAlike : Program → ℕ → State → State → ℕ → ℕ → Type 0
-RunAlike p n a b k j = slice_get (normal n (settled p a)).running k ≡ slice_get (normal n (settled p b)).running j
+-- two workers run requests of one name, or nothing
+abbrev pub RunAlike : State → State → ℕ → ℕ → Type 0
+RunAlike a b k j = slice_get (called a) k ≡ slice_get (called b) j
 
 -- such workers take requests
-pub record BothTake (p : Program) (n : ℕ) (a b : State) (e f : Event) : Type 0 where
+pub record BothTake (a b : State) (e f : Event) : Type 0 where
   pub worker : ℕ
   pub other : ℕ
   pub one : e ≡ Take worker
   pub two : f ≡ Take other
-  pub same : RunAlike p n a b worker other
+  pub same : RunAlike a b worker other
 
 -- or finish what they run
-pub record BothFinish (p : Program) (n : ℕ) (a b : State) (e f : Event) : Type 0 where
+pub record BothFinish (a b : State) (e f : Event) : Type 0 where
   pub worker : ℕ
   pub other : ℕ
   pub one : e ≡ Finish worker
   pub two : f ≡ Finish other
-  pub same : RunAlike p n a b worker other
+  pub same : RunAlike a b worker other
 
 -- or it is one event, and no worker's
-abbrev pub EventsAlike : Program → ℕ → State → State → Event → Event → Type 0
-EventsAlike p n a b e f = ((e ≡ f) × (is_of_worker e ≡ false)) ⊎ (BothTake p n a b e f ⊎ BothFinish p n a b e f)
+abbrev pub EventsAlike : State → State → Event → Event → Type 0
+EventsAlike a b e f = ((e ≡ f) × (is_of_worker e ≡ false)) ⊎ (BothTake a b e f ⊎ BothFinish a b e f)
 
-abbrev pub OffersAlike : Program → ℕ → State → State → Option Event → Option Event → Type 0
-OffersAlike p n a b None None = Unit {0}
-OffersAlike p n a b (Some e) (Some f) = EventsAlike p n a b e f
-OffersAlike p n a b x y = ⊥
+abbrev pub OffersAlike : State → State → Option Event → Option Event → Type 0
+OffersAlike a b None None = Unit {0}
+OffersAlike a b (Some e) (Some f) = EventsAlike a b e f
+OffersAlike a b x y = ⊥
 
--- ---- what workers run, in normal forms
+-- ---- what workers run
 
 was_run : (f : Id → Id) (xs : List Run) (j : ℕ) (z : Id) → slice_get (map (option_map f) xs) j ≡ Some (Some z)
     → (c : Id) × (slice_get xs j ≡ Some (Some c)) × (f c ≡ z)
@@ -125,37 +116,11 @@ was_none f (None ∷ xs) zero e = refl
 was_none f (Some c ∷ xs) zero e = absurd (let g : ⊥ = cc in g)
 was_none f (x ∷ xs) (suc j) e = was_none f xs j e
 
--- what becomes of an id in the form
-abbrev pub formed_id : Program → ℕ → State → Id → Id
-formed_id p n s id = rename (renaming n (settled p s)) (arranged_id (named_order (buried (arena_size p).slots s)) id)
-
-twice : (f g : Id → Id) (run : Run) → option_map f (option_map g run) ≡ option_map (λ (id : Id). f (g id)) run
-twice f g None = refl
-twice f g (Some id) = refl
-
-pub run_at : (p : Program) (n : ℕ) (s : State) (k : ℕ) (run : Run) → slice_get s.running k ≡ Some run
-    → slice_get (normal n (settled p s)).running k ≡ Some (option_map (formed_id p n s) run)
-run_at p n s k run there =
-    let o = named_order (buried (arena_size p).slots s) in
-    let g = option_map (arranged_id o) in
-    let f = option_map (rename (renaming n (settled p s))) in
-    slice_get-map f (map g s.running) k ∙ ap (option_map f) (slice_get-map g s.running k ∙ ap (option_map g) there)
-    ∙ ap Some (twice (rename (renaming n (settled p s))) (arranged_id o) run)
-
--- a worker that runs something in the form ran something that became it
-run_was : (p : Program) (n : ℕ) (s : State) (j : ℕ) (z : Id) → slice_get (normal n (settled p s)).running j ≡ Some (Some z)
-    → (c : Id) × (slice_get s.running j ≡ Some (Some c)) × (formed_id p n s c ≡ z)
-run_was p n s j z e =
-    let o = named_order (buried (arena_size p).slots s) in
-    let one = was_run (rename (renaming n (settled p s))) (map (option_map (arranged_id o)) s.running) j z e in
-    let two = was_run (arranged_id o) s.running j one.0 one.1 in
-    (two.0, two.1, ap (rename (renaming n (settled p s))) two.2 ∙ one.2)
-
-none_was : (p : Program) (n : ℕ) (s : State) (j : ℕ) → slice_get (normal n (settled p s)).running j ≡ Some None → slice_get s.running j ≡ Some None
-none_was p n s j e =
-    let o = named_order (buried (arena_size p).slots s) in
-    was_none (arranged_id o) s.running j
-    (was_none (rename (renaming n (settled p s))) (map (option_map (arranged_id o)) s.running) j e)
+pub run_at : (s : State) (k : ℕ) (run : Run) → slice_get s.running k ≡ Some run
+    → slice_get (called s) k ≡ Some (option_map (λ (id : Id). as_id (name_at s.arena.slots id)) run)
+run_at s k run there =
+    let f = option_map (λ (id : Id). as_id (name_at s.arena.slots id)) in
+    slice_get-map f s.running k ∙ ap (option_map f) there
 
 -- ---- names and ranks
 
@@ -203,48 +168,29 @@ pub rank_named : (p : Program) (s : State) (j : ℕ) (id : Id) → IsRegular p s
 rank_named p s j id h there = rank_by_name s.arena.slots s.running (name_at s.arena.slots id) id.slot
     (λ i other at same. ap (λ (x : Id). x.slot) (same_request p s i j other id h at there same))
 
+-- what is said of the one is said of the other
+module _ (n : ℕ) (a b : State) (same : tale n a ≡ tale n b) where
+  runs_same : ordered (called a) ≡ ordered (called b)
+  runs_same = ap (λ (t : Tale). t.running) same
+
+  pub rank_same : (name : Id) → rank_in (called a) name ≡ rank_in (called b) name
+  rank_same name =
+      sym (rank_ordered (called a) name) ∙ ap (λ (runs : List Run). rank_in runs name) runs_same ∙ rank_ordered (called b) name
+
 module _ (n : ℕ) (p : Program) where
-  -- what is said of the one is said of the other
-  module _ (a b : State) (ra : IsRegular p a) (rb : IsRegular p b) (same : by_name p n a ≡ by_name p n b) where
-    pub rank_same : (name : Id) → rank_in (called a) name ≡ rank_in (called b) name
-    rank_same name =
-        sym (rank_ordered (called a) name)
-        ∙ ap (λ (runs : List Run). rank_in runs name) (reads_alike n (λ (s : State). ordered (called s)) p (reads_called n) a b ra rb same)
-        ∙ rank_ordered (called b) name
-
-    -- where they run the same in the forms, they run requests of one name
-    name_same : (k j : ℕ) (id c : Id) → slice_get a.running k ≡ Some (Some id) → slice_get b.running j ≡ Some (Some c)
-        → slice_get (normal n (settled p a)).running k ≡ slice_get (normal n (settled p b)).running j
-        → name_at a.arena.slots id ≡ name_at b.arena.slots c
-    name_same k j id c here there alike =
-        let f = λ (s : State) (x : Id). as_id (name_at s.arena.slots x) in
-        let u = normal n (settled p a) in
-        let v = normal n (settled p b) in
-        let arena : u.arena ≡ v.arena = ap (λ (s : State). s.arena) same in
-        let one : Some (Some (f a id)) ≡ slice_get (called u) k =
-        ap (option_map (option_map (f a))) (sym here) ∙ sym (slice_get-map (option_map (f a)) a.running k)
-        ∙ ap (λ (runs : List Run). slice_get runs k) (sees_normal n called p (sees_called n) a ra) in
-        let two : slice_get (called v) j ≡ Some (Some (f b c)) =
-        ap (λ (runs : List Run). slice_get runs j) (sym (sees_normal n called p (sees_called n) b rb))
-        ∙ slice_get-map (option_map (f b)) b.running j ∙ ap (option_map (option_map (f b))) there in
-        let across : slice_get (called u) k ≡ slice_get (called v) j =
-        slice_get-map (option_map (f u)) u.running k
-        ∙ (λ i. option_map (option_map (λ (x : Id). as_id (name_at (arena i).slots x))) (alike i))
-        ∙ sym (slice_get-map (option_map (f v)) v.running j) in
-        ap (λ (x : Id). x.slot) (same_Some (f a id) (f b c) (same_Some (Some (f a id)) (Some (f b c)) (one ∙ across ∙ two)))
-
-    runner_there : (rank k : ℕ) → runner a rank ≡ Some k → (j : ℕ) × (runner b rank ≡ Some j) × RunAlike p n a b k j
+  module _ (a b : State) (ra : IsRegular p a) (rb : IsRegular p b) (same : tale n a ≡ tale n b) where
+    runner_there : (rank k : ℕ) → runner a rank ≡ Some k → (j : ℕ) × (runner b rank ≡ Some j) × RunAlike a b k j
     runner_there rank k e =
         let here = rank_slot a rank k e in
         let id = here.0 in
-        let turned = run_at p n a k (Some id) here.1 in
-        let there = workers_alike (normal n (settled p a)) (normal n (settled p b)) k (Some (formed_id p n a id)) same turned in
-        let was = run_was p n b there.0 (formed_id p n a id) there.1 in
+        let name = as_id (name_at a.arena.slots id) in
+        let turned = run_at a k (Some id) here.1 in
+        let there = found_alike (called a) (called b) k (Some name) (runs_same n a b same) turned in
+        let was = was_run (λ (x : Id). as_id (name_at b.arena.slots x)) b.running there.0 name there.1 in
         let c = was.0 in
-        let named = name_same k there.0 id c here.1 was.1 (turned ∙ sym there.1) in
         let rank_is : rank_of b c ≡ rank =
-        rank_named p b there.0 c rb was.1 ∙ ap (λ v. rank_in (called b) (as_id v)) (sym named)
-        ∙ sym (rank_same (as_id (name_at a.arena.slots id))) ∙ sym (rank_named p a k id ra here.1) ∙ here.2 in
+        rank_named p b there.0 c rb was.1 ∙ ap (rank_in (called b)) was.2
+        ∙ sym (rank_same n a b same name) ∙ sym (rank_named p a k id ra here.1) ∙ here.2 in
         let first = slot_rank b there.0 c rank was.1 rank_is in
         let found = rank_slot b rank first.0 first.1 in
         let d = found.0 in
@@ -254,49 +200,49 @@ module _ (n : ℕ) (p : Program) where
         let one : d ≡ c = same_request p b first.0 there.0 d c rb found.1 was.1 (ap (λ (x : Id). x.slot) key) in (
           first.0,
           first.1,
-          turned ∙ ap (λ x. Some (Some x)) (sym was.2) ∙ ap (λ x. Some (Some (formed_id p n b x))) (sym one)
-              ∙ sym (run_at p n b first.0 (Some d) found.1),
+          turned ∙ sym (run_at b first.0 (Some d) found.1
+              ∙ ap (λ x. Some (Some (as_id (name_at b.arena.slots x)))) one ∙ ap (λ x. Some (Some x)) was.2),
         )
 
-    idle_there : (k : ℕ) → idle_worker a ≡ Some k → (j : ℕ) × (idle_worker b ≡ Some j) × RunAlike p n a b k j
+    idle_there : (k : ℕ) → idle_worker a ≡ Some k → (j : ℕ) × (idle_worker b ≡ Some j) × RunAlike a b k j
     idle_there k e =
         let none = λ (run : Run). is_none run in
         let here = first_at none a.running k e in
         let idle : slice_get a.running k ≡ Some None = here.1 ∙ ap Some (is_idle here.0 here.2) in
-        let turned = run_at p n a k None idle in
-        let there = workers_alike (normal n (settled p a)) (normal n (settled p b)) k None same turned in
-        let was = none_was p n b there.0 there.1 in
+        let turned = run_at a k None idle in
+        let there = found_alike (called a) (called b) k None (runs_same n a b same) turned in
+        let was = was_none (λ (x : Id). as_id (name_at b.arena.slots x)) b.running there.0 there.1 in
         let first = first_some none b.running 0 there.0 None was refl in
         let found = first_at none b.running first.0 first.1 in
         let free : slice_get b.running first.0 ≡ Some None = found.1 ∙ ap Some (is_idle found.0 found.2) in
-        (first.0, first.1, turned ∙ sym (run_at p n b first.0 None free))
+        (first.0, first.1, turned ∙ sym (run_at b first.0 None free))
       where
         is_idle : (run : Run) → is_none run ≡ true → run ≡ None
         is_idle None is = refl
         is_idle (Some id) is = absurd (let f : false ≡ true = is in cc)
 
-  module _ (a b : State) (one : IsRegular p a) (two : IsRegular p b) (same : by_name p n a ≡ by_name p n b) where
+  module _ (a b : State) (one : IsRegular p a) (two : IsRegular p b) (same : tale n a ≡ tale n b) where
     -- of each rank a worker of the one and a worker of the other finish alike
-    pub finishes_alike : (rank : ℕ) → OffersAlike p n a b (finish_by (runner a rank)) (finish_by (runner b rank))
+    pub finishes_alike : (rank : ℕ) → OffersAlike a b (finish_by (runner a rank)) (finish_by (runner b rank))
     finishes_alike rank = by (runner a rank) (runner b rank) refl refl where
-      by : (x y : Option ℕ) → runner a rank ≡ x → runner b rank ≡ y → OffersAlike p n a b (finish_by x) (finish_by y)
+      by : (x y : Option ℕ) → runner a rank ≡ x → runner b rank ≡ y → OffersAlike a b (finish_by x) (finish_by y)
       by None None e f = tt
       by (Some k) y e f =
           let there = runner_there a b one two same rank k e in
-          subst (λ o. OffersAlike p n a b (Some (Finish k)) (finish_by o)) (sym there.1 ∙ f)
+          subst (λ o. OffersAlike a b (Some (Finish k)) (finish_by o)) (sym there.1 ∙ f)
           (inr (inr (record { worker = k; other = there.0; one = refl; two = refl; same = there.2 })))
       by None (Some j) e f =
           let there = runner_there b a two one (sym same) rank j f in
           absurd (none-some there.0 (sym e ∙ there.1))
 
     -- and so do the first that are idle take
-    pub takes_alike : OffersAlike p n a b (take_by (idle_worker a)) (take_by (idle_worker b))
+    pub takes_alike : OffersAlike a b (take_by (idle_worker a)) (take_by (idle_worker b))
     takes_alike = by (idle_worker a) (idle_worker b) refl refl where
-      by : (x y : Option ℕ) → idle_worker a ≡ x → idle_worker b ≡ y → OffersAlike p n a b (take_by x) (take_by y)
+      by : (x y : Option ℕ) → idle_worker a ≡ x → idle_worker b ≡ y → OffersAlike a b (take_by x) (take_by y)
       by None None e f = tt
       by (Some k) y e f =
           let there = idle_there a b one two same k e in
-          subst (λ o. OffersAlike p n a b (Some (Take k)) (take_by o)) (sym there.1 ∙ f)
+          subst (λ o. OffersAlike a b (Some (Take k)) (take_by o)) (sym there.1 ∙ f)
           (inr (inl (record { worker = k; other = there.0; one = refl; two = refl; same = there.2 })))
       by None (Some j) e f =
           let there = idle_there b a two one (sym same) j f in

@@ -21,9 +21,8 @@ none_at (y ∷ ys) zero e = absurd (none-some y (sym e))
 none_at (y ∷ ys) (suc k) e = none_at ys k e
 
 some_at : {A : Type 0} (xs : List A) (k : ℕ) (d : A) → k < length xs → slice_get xs k ≡ Some (unwrap_or (slice_get xs k) d)
-some_at [] k d within = absurd (omega (arith, within))
-some_at (y ∷ ys) zero d within = refl
 some_at (y ∷ ys) (suc k) d within = some_at ys k d (omega (arith, within))
+some_at each e1 d within = grind arith
 
 -- ---- whether a test holds of each
 

@@ -1,5 +1,5 @@
 -- A move that is made, and taken back.
-use Rattle.std.proofs.Common.{◌≡◌, ℕ, zero, suc, ◌+◌, ◌-◌, ◌<◌, subst, sym, List, [], ◌∷◌, ◌++◌, length, take, reverse, refl, ap, ◌∙◌, Option, Some, None, Ok, arith, length-append, length-take}
+use Rattle.std.proofs.Common.{◌≡◌, ℕ, suc, ◌+◌, ◌-◌, ◌<◌, List, [], ◌∷◌, ◌++◌, length, take, reverse, Option, Some, Ok, arith, length-append, length-take}
 use Rattle.std.proofs.lemmas.Grind.{common_steps}
 use Rattle.std.proofs.lemmas.List.{reverse-append}
 use Rattle.uv_ids.specs.declared.event.Event.{Event}
@@ -13,10 +13,10 @@ use Rattle.uv_find.specs.declared.kept.Kept.{Kept}
 use Rattle.uv_find.specs.declared.left.Left.{Left}
 use Rattle.uv_find.specs.declared.terms.Terms.{Terms}
 use Rattle.uv_find.specs.Kept.{kept_after}
-use Rattle.uv_find.specs.Orders.{Rules, Choice, led_by, placed, taken}
+use Rattle.uv_find.specs.Orders.{Rules, Choice, taken}
 use Rattle.uv_find.proofs.Led.{brief_more, choice_brief}
-use Rattle.uv_find.specs.Spots.{AreBrief, MayForget, MayHold, IsSearched, searched, spots_before, left_before, rules_by, place_by}
-use Rattle.uv_find.specs.Steps.{Stands, Takes, Makes, MakesNone, state_in}
+use Rattle.uv_find.specs.Spots.{AreBrief, IsSearched, searched, spots_before, left_before, rules_by, place_by}
+use Rattle.uv_find.specs.Steps.{Stands, Takes, Makes, state_in}
 
 last_taken : (es : List Event) (e : Event) → take (length (es ++ e ∷ []) - 1) (es ++ e ∷ []) ≡ es
 last_taken es e = grind (arith, common_steps)
@@ -26,19 +26,7 @@ before_more : (p : Program) (es : List Event) (e : Event) (xs : List Left) (m : 
     → spots_before p (es ++ e ∷ []) xs (m ∷ ms)
     ≡ record { place = record { state = after p es; left = left_before m.was xs; kept = m.kept }; steps = es }
     ∷ spots_before p es (left_before m.was xs) ms
-before_more p es e xs m ms =
-    λ i. record { place = record { state = after p (last_taken es e i); left = left_before m.was xs; kept = m.kept }; steps = last_taken es e i }
-    ∷ spots_before p (last_taken es e i) (left_before m.was xs) ms
-
--- the same steps, the same search
-pub same_searched : (s t : Shown) (terms : Terms) (left : List Left) (kept : Kept) (made : List Made) → Stands s s.standing t
-    → searched t terms left kept made ≡ searched s terms left kept made
-same_searched s t terms left kept made k =
-    λ i. record {
-      rules = rules_by (k.program i) terms;
-      spot = record { place = record { state = after (k.program i) (k.standing i); left = left; kept = kept }; steps = k.standing i };
-      before = spots_before (k.program i) (k.standing i) left (reverse made);
-    }
+before_more p es e xs m ms = simp last_taken
 
 pub takes_one : (E : Type 0) (s t : Shown) (terms : Terms) (left : List Left) (kept : Kept) (made : List Made) (number : ℕ) (c : Choice)
     (outcome : Outcome) (m : Made) → left_before m.was c.left ≡ left → m.kept ≡ kept → Makes terms s left kept number c outcome.seen t
@@ -50,21 +38,8 @@ takes_one E s t terms left kept made number c outcome m was held (k, chosen, goe
     let r : Rules = rules_by s.program terms in
     let turned : reverse (made ++ m ∷ []) ≡ m ∷ reverse made = reverse-append made (m ∷ []) in (
       record { event = c.event; place = taken r c (state_in t) outcome.seen; line = outcome.seen },
-      (
-        ap (led_by r (place_by s left kept)) chosen ∙ ap (placed r c) goes,
-        refl,
-        (λ i. rules_by (k.program i) terms),
-        ap (λ (es : List Event). record { place = taken r c (state_in t) outcome.seen; steps = es }) k.standing,
-        (λ i. spots_before (k.program i) (k.standing i) c.left (turned i)) ∙ before_more s.program s.standing c.event c.left m (reverse made)
-            ∙ (λ i. record { place = record { state = after s.program s.standing; left = was i; kept = held i }; steps = s.standing }
-            ∷ spots_before s.program s.standing (was i) (reverse made)),
-      ),
+      (grind (arith, before_more)),
     )
-
-pub takes_none : (E : Type 0) (s t : Shown) (terms : Terms) (left : List Left) (kept : Kept) (made : List Made) (number : ℕ)
-    → MakesNone terms s left kept number t
-    → Takes {E = E} (searched s terms left kept made) number (Ok None) (searched t terms left kept made)
-takes_none E s t terms left kept made number (k, goes) = (goes, same_searched s t terms left kept made k)
 
 -- ---- what always holds
 
@@ -75,21 +50,11 @@ taken_searched B s t terms left kept made number c line m i few (k, chosen, goes
     let r : Rules = rules_by s.program terms in
     let long : length t.standing ≡ length s.standing + 1 = rw k.standing (omega (arith, length-append {A = Event})) in
     let brief = brief_more terms.forget s.standing c.event i.brief (choice_brief r (place_by s left kept) number c i.forgets chosen) in
-    record {
-      limit = k.limit ∙ i.limit;
-      taken = rw long (omega (arith, i.taken, length-append {A = Made}));
-      back = i.back;
-      forgets = subst (λ p. MayForget (rules_by p terms)) (sym k.program) i.forgets;
-      holds = subst (λ p. MayHold (rules_by p terms)) (sym k.program) i.holds;
-      brief = subst (AreBrief terms.forget) (sym k.standing) brief;
-      room = omega (arith, long, few);
-    }
+    grind (arith, length-append)
 
 brief_front : (forget : Option ℕ) (n : ℕ) (es : List Event) → AreBrief forget es → AreBrief forget (take n es)
-brief_front forget zero [] h = tt
-brief_front forget zero (e ∷ es) h = tt
-brief_front forget (suc n) [] h = tt
 brief_front forget (suc n) (e ∷ es) h = (h.0, brief_front forget n es h.1)
+brief_front forget each e2 h = assumption
 
 pub back_searched : (B : Type 0) (s t : Shown) (terms : Terms) (made rest : List Made) (m : Made)
     → IsSearched B s terms made → made ≡ rest ++ m ∷ [] → Stands s (take (length s.standing - 1) s.standing) t
@@ -97,12 +62,4 @@ pub back_searched : (B : Type 0) (s t : Shown) (terms : Terms) (made rest : List
 back_searched B s t terms made rest m i split k =
     let long : length t.standing ≡ length s.standing - 1 = rw k.standing (omega (arith, length-take {A = Event})) in
     let count : length made ≡ length rest + 1 = rw split (omega (arith, length-append {A = Made})) in
-    record {
-      limit = k.limit ∙ i.limit;
-      taken = rw long (omega (arith, i.taken, count));
-      back = i.back;
-      forgets = subst (λ p. MayForget (rules_by p terms)) (sym k.program) i.forgets;
-      holds = subst (λ p. MayHold (rules_by p terms)) (sym k.program) i.holds;
-      brief = subst (AreBrief terms.forget) (sym k.standing) (brief_front terms.forget (length s.standing - 1) s.standing i.brief);
-      room = omega (arith, long, i.room);
-    }
+    grind (arith, brief_front)

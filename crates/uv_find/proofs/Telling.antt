@@ -1,27 +1,17 @@
 -- The key of a place tells all of it that decides what comes after.
-use Rattle.std.proofs.Common.{◌≡◌, ℕ, List, [], ◌∷◌, ◌++◌, length, refl, sym, ap, ap₂, subst, ◌∙◌, Option, Some, None, append_assoc, arith}
+use Rattle.std.proofs.Common.{◌≡◌, ℕ, List, [], ◌∷◌, ◌++◌, length, refl, sym, ap, ap₂, subst, ◌∙◌, append_assoc, arith}
 use Rattle.uv_key.specs.Codes.{number_code}
 use Rattle.uv_key.proofs.Telling.{numbers_tell}
-use Rattle.uv_state_key.specs.TaleKey.{key_code}
-use Rattle.uv_state_key.specs.Told.{IsTold, IsToldIn}
+use Rattle.uv_state_key.specs.Told.{IsTold}
 use Rattle.uv_state_key.proofs.States.{after_told}
 use Rattle.uv_state_key.proofs.FormsTell.{forms_tell}
 use Rattle.uv_find.specs.Orders.{Rules}
 use Rattle.uv_find.specs.declared.kept.Along.{Along}
 use Rattle.uv_find.specs.declared.left.Left.{Left}
-use Rattle.uv_find.specs.declared.left.Left.TheVariants as left
-use Rattle.uv_find.specs.Spots.{Spot, Told, told, kind_code, event_code, each_code, left_code, along_code, kept_code, spot_code, IsSpot}
-use Rattle.uv_find.proofs.Alike.{spot_regular}
+use Rattle.uv_find.specs.Spots.{Spot, told, kind_code, event_code, each_code, left_code, along_code, kept_code, spot_code, IsSpot}
 
 kinds_tell : (a b : Left) (x y : List ℕ) → kind_code a ≡ kind_code b → event_code a ++ x ≡ event_code b ++ y → (a ≡ b) × (x ≡ y)
-kinds_tell left.AtWill left.AtWill x y e same = (refl, same)
-kinds_tell left.Over left.Over x y e same = (refl, same)
-kinds_tell (left.Times m) (left.Times n) x y e same =
-    let one : m ≡ n = omega (arith, e) in
-    (ap left.Times one, same)
-kinds_tell (left.Ahead m) (left.Ahead n) x y e same = let t = numbers_tell m n x y same in (ap left.Ahead t.0, t.1)
-kinds_tell (left.Held m) (left.Held n) x y e same = let t = numbers_tell m n x y same in (ap left.Held t.0, t.1)
-kinds_tell a b x y e same = absurd (omega (arith, e))
+kinds_tell a b x y e same = grind (arith, numbers_tell)
 
 -- what is left of as many in both
 each_tells : (a b : List Left) (x y : List ℕ) → length a ≡ length b → each_code a ++ x ≡ each_code b ++ y → (a ≡ b) × (x ≡ y)
@@ -40,10 +30,7 @@ each_tells (a ∷ as1) (b ∷ bs) x y s e =
     parted n code rest x = append_assoc (number_code n ++ code) rest x ∙ append_assoc (number_code n) code (rest ++ x)
 
 lefts_tell : (a b : List Left) (x y : List ℕ) → left_code a ++ x ≡ left_code b ++ y → (a ≡ b) × (x ≡ y)
-lefts_tell a b x y e =
-    let first = numbers_tell (length a) (length b) (each_code a ++ x) (each_code b ++ y)
-    (sym (append_assoc (number_code (length a)) (each_code a) x) ∙ e ∙ append_assoc (number_code (length b)) (each_code b) y) in
-    each_tells a b x y first.0 first.1
+lefts_tell a b x y e = grind (arith, numbers_tell, append_assoc, each_tells)
 
 along_tells : (a b : Along) → along_code a ≡ along_code b → a ≡ b
 along_tells a b e =
@@ -63,29 +50,9 @@ kept_tells d e owed other a b same =
     let still = numbers_tell owed other (along_code a) (along_code b) early.1 in
     ((λ i. (late.0 i, early.0 i)), still.0, along_tells a b still.1)
 
-told_in : (r : Rules) (s : Spot) → IsSpot r s → IsToldIn r.forget r.program s.place.state
-told_in r s is = by r.forget refl where
-  told_after : IsTold s.place.state
-  told_after = subst IsTold (sym is.state) (after_told r.program s.steps)
-
-  by : (o : Option ℕ) → r.forget ≡ o → IsToldIn o r.program s.place.state
-  by None e = told_after
-  by (Some n) e =
-      record { told = told_after; regular = spot_regular r n e (is.forgets n e) s is }
+told_in : (r : Rules) (s : Spot) → IsSpot r s → IsTold s.place.state
+told_in r s is = subst IsTold (sym is.state) (after_told r.program s.steps)
 
 -- a place is told by its key
 pub places_tell : (r : Rules) (s t : Spot) → IsSpot r s → IsSpot r t → spot_code r s ≡ spot_code r t → told r s.place ≡ told r t.place
-places_tell r s t is js e =
-    let a : Told = told r s.place in
-    let b : Told = told r t.place in
-    let x = kept_code a.due a.owed a.along in
-    let y = kept_code b.due b.owed b.along in
-    let front = key_code r.forget s.place.state in
-    let other = key_code r.forget t.place.state in
-    let one : front ++ (left_code a.left ++ x) ≡ other ++ (left_code b.left ++ y) =
-    sym (append_assoc front (left_code a.left) x) ∙ e ∙ append_assoc other (left_code b.left) y in
-    let state = forms_tell r.program r.forget s.place.state t.place.state (left_code a.left ++ x) (left_code b.left ++ y) (told_in r s is)
-    (told_in r t js) one in
-    let lefts = lefts_tell a.left b.left x y state.1 in
-    let kept = kept_tells a.due b.due a.owed b.owed a.along b.along lefts.1 in
-    λ i. record { state = state.0 i; left = lefts.0 i; due = kept.0 i; owed = kept.1 i; along = kept.2 i }
+places_tell r s t is js e = grind (arith, told, append_assoc, forms_tell, told_in, lefts_tell, kept_tells)

@@ -3,7 +3,6 @@ use Rattle.std.proofs.Common.{◌≡◌, ℕ, zero, suc, ◌+◌, ◌-◌, ◌�
 use Rattle.std.specs.Prelude.{map, option_map}
 use Rattle.std.specs.List.{list_all}
 use Rattle.std.proofs.lemmas.Bool.{and_parts}
-use Rattle.std.proofs.lemmas.Option.{none-some, same_Some}
 use Rattle.uv_ids.specs.declared.event.Event.{Event}
 use Rattle.uv_ids.specs.declared.event.Event.TheVariants.{Loop, Take, Finish, Cancel, Send, Io, Tick}
 use Rattle.uv_ids.specs.declared.id.Id.{Id}
@@ -11,7 +10,6 @@ use Rattle.uv_ids.specs.declared.id.Var.{Var}
 use Rattle.uv_ids.specs.declared.seen.Callback.{Callback}
 use Rattle.uv_script.specs.declared.op.Op.{Op}
 use Rattle.uv_script.specs.declared.op.MainOp.{MainOp}
-use Rattle.uv_script.specs.declared.op.MainOp.TheVariants as main
 use Rattle.uv_script.specs.Program.{Program, lines_in}
 use Rattle.uv_records.specs.declared.named.Named.{Named}
 use Rattle.uv_records.specs.Slots.{held}
@@ -21,10 +19,8 @@ use Rattle.uv_model.specs.Bounds.{line_of}
 use Rattle.uv_model.specs.Next.{Next, Moves, Refuses, next}
 use Rattle.uv_model.specs.State.{State, named}
 use Rattle.uv_model.specs.declared.place.Place as loop
-use Rattle.uv_model.specs.declared.place.Place.TheVariants.{Main, Running}
-use Rattle.uv_model.specs.declared.place.Stage.{Stage}
-use Rattle.uv_model.specs.declared.place.Stage.TheVariants as stage
-use Rattle.uv_alike.specs.Changed.{changed_callback, changed_event, changed_main, changed_op, changed_place, changed_stage}
+use Rattle.uv_model.specs.declared.place.Place.TheVariants.{Main}
+use Rattle.uv_alike.specs.Changed.{changed_callback, changed_event, changed_main, changed_op, changed_place}
 use Rattle.uv_slots.specs.Alike as slots
 use Rattle.uv_slots.specs.Alike.{moved_var, moved_content, by_names}
 use Rattle.uv_asking.specs.declared.asking.Offer.{Offer}
@@ -35,7 +31,7 @@ use Rattle.uv_find.specs.declared.left.Left.{Left}
 use Rattle.uv_find.specs.Kept.{owes}
 use Rattle.uv_find.specs.Mates.{offer_spares, main_spares}
 use Rattle.uv_find.specs.Ops.{is_beside, spares, of_main}
-use Rattle.uv_find.specs.Orders.{Rules, aim, is_made, is_free, spending, step_of, is_blocked, refused_as_blocked, deadline_at, deadline_in, wait_until, take_by, may_last, ends_within, is_in_poll, is_poll_stage, wait_for, is_quiet, is_behind_poll, is_closing, closes, event_of, timed, keeps_clock, is_brief, brief, offered_by, may_take}
+use Rattle.uv_find.specs.Orders.{Rules, aim, is_made, is_free, spending, step_of, is_blocked, refused_as_blocked, deadline_at, wait_until, take_by, may_last, ends_within, is_in_poll, wait_for, is_quiet, is_closing, closes, event_of, timed, brief, offered_by, may_take}
 use Rattle.uv_find.specs.Ranks.{idle_worker, ranked}
 use Rattle.uv_find.specs.Spots.{AreMates}
 use Rattle.uv_find.proofs.Equal.{lines_turned}
@@ -49,14 +45,11 @@ op_same : (a : ℕ) (o : Op) → spares a o ≡ true → changed_op (by_names (s
 op_same a o e = grind (arith, (beside_var a))
 
 main_same : (a : ℕ) (m : MainOp) → of_main (spares a) m ≡ true → changed_main (by_names (swap a)) m ≡ m
-main_same a (main.Op o) e = ap main.Op (op_same a o e)
-main_same a (main.Run mode) e = refl
+main_same a m e = grind (arith, op_same)
 
 all_behind : {X : Type 0} (f : X → Bool) (xs : List X) (k : ℕ) (x : X) → list_all f (drop k xs) ≡ true → slice_get xs k ≡ Some x → f x ≡ true
-all_behind f [] zero x e at = absurd (none-some x at)
-all_behind f [] (suc k) x e at = absurd (none-some x at)
-all_behind f (y ∷ ys) zero x e at = ap f (sym (same_Some y x at)) ∙ (and_parts (f y) (list_all f ys) e).0
 all_behind f (y ∷ ys) (suc k) x e at = all_behind f ys k x e at
+all_behind f each e2 x e at = grind arith
 
 all_further : {X : Type 0} (f : X → Bool) (xs : List X) (k m : ℕ) → k ≤ m → list_all f (drop k xs) ≡ true → list_all f (drop m xs) ≡ true
 all_further f [] zero zero l e = e
@@ -100,26 +93,13 @@ module _ (r : Rules) (a : ℕ) (mates : AreMates r a) where
 -- ---- what a search reads
 
 quiet_same : (a : ℕ) (q : loop.Place) → is_quiet (changed_place (by_names (swap a)) q) ≡ is_quiet q
-quiet_same a (Main line) = refl
-quiet_same a (Running run) = by run.stage where
-  by : (x : Stage) → is_behind_poll (changed_stage (by_names (swap a)) x) ≡ is_behind_poll x
-  by (stage.Poll deadline) = refl
-  by x = refl
+quiet_same a q = grind arith
 
 in_poll_same : (a : ℕ) (q : loop.Place) → is_in_poll (changed_place (by_names (swap a)) q) ≡ is_in_poll q
-in_poll_same a (Main line) = refl
-in_poll_same a (Running run) = by run.stage where
-  by : (x : Stage) → is_poll_stage (changed_stage (by_names (swap a)) x) ≡ is_poll_stage x
-  by (stage.Poll deadline) = refl
-  by x = refl
+in_poll_same a q = grind arith
 
 deadline_same : (a : ℕ) (q : loop.Place) → deadline_at (changed_place (by_names (swap a)) q) ≡ deadline_at q
-deadline_same a (Main line) = refl
-deadline_same a (Running run) = by run.stage where
-  by : (x : Stage) → deadline_in (changed_stage (by_names (swap a)) x) ≡ deadline_in x
-  by (stage.Poll None) = refl
-  by (stage.Poll (Some deadline)) = refl
-  by x = refl
+deadline_same a q = grind arith
 
 closing_same : (a : ℕ) (c : Option Content) → is_closing (option_map (moved_content (swap a)) c) ≡ is_closing c
 closing_same a None = refl
@@ -146,27 +126,16 @@ plain_stays a (Io v) is = is
 plain_stays a (Tick ms) is = refl
 
 ranked_plain : (f : Option ℕ) (s : State) (a : ℕ) (o : Option Event) → IsPlain a o → ranked f s o ≡ o
-ranked_plain None s a o is = refl
-ranked_plain (Some n) s a None is = refl
-ranked_plain (Some n) s a (Some Loop) is = refl
-ranked_plain (Some n) s a (Some (Take k)) is = refl
-ranked_plain (Some n) s a (Some (Finish k)) is = absurd is
-ranked_plain (Some n) s a (Some (Cancel v)) is = refl
-ranked_plain (Some n) s a (Some (Send v)) is = refl
-ranked_plain (Some n) s a (Some (Io v)) is = refl
-ranked_plain (Some n) s a (Some (Tick ms)) is = refl
+ranked_plain each s a e3 is = grind arith
 
 if_plain : (a : ℕ) (b : Bool) (e : Event) → IsPlain a (Some e) → IsPlain a (if b then Some e else None)
-if_plain a true e is = is
-if_plain a false e is = tt
+if_plain a b e is = grind arith
 
 brief_plain : (f : Option ℕ) (a : ℕ) (o : Option Event) → IsPlain a o → IsPlain a (brief f o)
-brief_plain f a None is = tt
-brief_plain f a (Some e) is = if_plain a (is_brief f e) e is
+brief_plain f a o is = grind arith
 
 timed_plain : (most : Option ℕ) (clock a : ℕ) (o : Option Event) → IsPlain a o → IsPlain a (timed most clock o)
-timed_plain most clock a None is = tt
-timed_plain most clock a (Some e) is = if_plain a (keeps_clock most clock e) e is
+timed_plain most clock a o is = grind arith
 
 -- an offer that isn't one
 abbrev pub IsFree : Offer → Type 0

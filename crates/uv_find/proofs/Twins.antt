@@ -1,7 +1,7 @@
--- Where workers run two requests that are alike, the state is that in which their names have changed places, by its form by names.
-use Rattle.std.proofs.Common.{◌≡◌, ℕ, zero, suc, ◌+◌, ◌<◌, ◌≤◌, ◌==◌, ◌||◌, not, Bool, true, false, List, [], ◌∷◌, ◌++◌, length, slice_get, refl, ap, ap₂, sym, subst, ◌∙◌, Option, Some, None, arith}
+-- Where workers run two requests that are alike, the same is told of the state as of that in which their names have changed places.
+use Rattle.std.proofs.Common.{◌≡◌, ℕ, zero, suc, ◌+◌, ◌<◌, ◌≤◌, ◌==◌, ◌||◌, Bool, true, false, List, [], ◌∷◌, ◌++◌, length, slice_get, refl, ap, ap₂, sym, subst, ◌∙◌, Option, Some, None, arith}
 use Rattle.std.specs.Prelude.{map, min, option_map, unwrap_or}
-use Rattle.std.proofs.lemmas.Bool.{and_parts, or_right}
+use Rattle.std.proofs.lemmas.Bool.{or_right}
 use Rattle.std.proofs.lemmas.List.{length-map}
 use Rattle.std.proofs.lemmas.Option.{none-some, same_Some, slice_get-map}
 use Rattle.uv_ids.specs.declared.id.Id.{Id}
@@ -18,15 +18,13 @@ use Rattle.uv_records.specs.Walks.{Walk}
 use Rattle.uv_work.specs.declared.content.Content.{Content}
 use Rattle.uv_work.specs.declared.content.Content.TheVariants as content
 use Rattle.uv_work.specs.declared.outcome.Outcome.{Outcome}
-use Rattle.uv_work.specs.declared.outcome.Outcome.TheVariants.{Open, Finished, Cancelled}
+use Rattle.uv_work.specs.declared.outcome.Outcome.TheVariants.{Open}
 use Rattle.uv_work.specs.declared.request.Request.{Request}
 use Rattle.uv_work.specs.Requests.{is_open}
 use Rattle.uv_model.specs.Content.{handle_in, request_in}
 use Rattle.uv_model.specs.declared.place.Body.{Body}
 use Rattle.uv_model.specs.declared.place.Place.{Place}
-use Rattle.uv_model.specs.declared.place.Place.TheVariants.{Main, Running}
 use Rattle.uv_model.specs.declared.place.Stage.{Stage}
-use Rattle.uv_model.specs.declared.place.Stage.TheVariants.{Poll}
 use Rattle.uv_model.specs.Ids.{same_id}
 use Rattle.uv_model.specs.State.{State, named, handle, request, watched}
 use Rattle.uv_order.specs.Active.{has_id, AreDistinct, run_ids}
@@ -43,16 +41,14 @@ use Rattle.uv_alike.specs.Contents.{name_in}
 use Rattle.uv_slots.proofs.Orders.{Fits, get_arranged}
 use Rattle.uv_workers.specs.Workers.{with_run, ordered}
 use Rattle.uv_workers.proofs.Runs.{swapped}
-use Rattle.uv_pooled.proofs.Given.{has_at}
-use Rattle.uv_by_name.specs.ByName.{by_name, IsRegular}
-use Rattle.uv_tale.specs.Tale.{Told, as_id, bound_by, bound_to, name_at, names_at, number_of, numbers_at, runs_at, tale_by, told_name, walk_at}
-use Rattle.uv_tale.proofs.Form.{tales_tell}
+use Rattle.uv_tale.proofs.Given.{has_at}
+use Rattle.uv_tale.specs.Alike.{IsRegular}
+use Rattle.uv_tale.specs.Tale.{Told, as_id, bound_by, bound_to, name_at, names_at, number_of, numbers_at, runs_at, tale, tale_by, told_name, walk_at}
 use Rattle.uv_find.specs.Ops.{is_beside}
 use Rattle.uv_find.specs.Mates.{body_spares, place_spares}
 use Rattle.uv_find.proofs.Ranking.{Run}
-use Rattle.uv_find.proofs.Meeting.{not_true}
 use Rattle.uv_find.proofs.Swap.{swap, is_equal, differs, swap_length, swap_order, first_goes, second_goes, other_stays, twice_stays}
-use Rattle.uv_find.proofs.Mirrored.{mirrored, held_mirrored, mirrored_regular}
+use Rattle.uv_find.proofs.Mirrored.{mirrored, held_mirrored}
 
 -- ---- what workers run, in order
 
@@ -135,29 +131,19 @@ in_both (x ∷ xs) ys id h one two = by (in_both xs ys id h.1) (same_id x id) re
   by more false is first = more first two
 
 run_has : (xs : List Run) (k : ℕ) (id : Id) → slice_get xs k ≡ Some (Some id) → has_id (run_ids xs) id ≡ true
-run_has [] k id e = absurd (none-some (Some id) e)
-run_has (None ∷ xs) zero id e = absurd (none-some id (same_Some None (Some id) e))
 run_has (None ∷ xs) (suc k) id e = run_has xs k id e
-run_has (Some x ∷ xs) zero id e =
-    let one : x ≡ id = same_Some x id (same_Some (Some x) (Some id) e) in
-    ap (λ b. b || has_id (run_ids xs) id) (ids.itself x id one)
 run_has (Some x ∷ xs) (suc k) id e = or_right (same_id x id) (has_id (run_ids xs) id) (run_has xs k id e)
+run_has each e1 id e = grind arith
 
 -- no handle is a request
 not_both : (o : Option Content) (h : HandleRecord) (r : Request) → handle_in o ≡ Some h → request_in o ≡ Some r → ⊥
-not_both None h r e f = none-some h e
-not_both (Some (content.Handle g)) h r e f = none-some r f
-not_both (Some (content.Request q)) h r e f = none-some h e
+not_both each h r e f = grind arith
 
 held_request : (o : Option Content) (r : Request) → request_in o ≡ Some r → o ≡ Some (content.Request r)
-held_request None r e = absurd (none-some r e)
-held_request (Some (content.Handle h)) r e = absurd (none-some r e)
-held_request (Some (content.Request q)) r e = ap (λ (x : Request). Some (content.Request x)) (same_Some q r e)
+held_request each r e = grind arith
 
 open_is : (o : Outcome) → is_open o ≡ true → o ≡ Open
-open_is Open e = refl
-open_is (Finished digest) e = absurd (let f : false ≡ true = e in cc)
-open_is Cancelled e = absurd (let f : false ≡ true = e in cc)
+open_is each e = grind arith
 
 -- ---- the state
 
@@ -180,9 +166,7 @@ pub record AreTwins (s : State) (a : ℕ) : Type 0 where
   pub place : place_spares a s.place ≡ true
 
 beside_first : (a : ℕ) (v : Var) → is_beside a (Some v) ≡ true → (v.0 ≡ a → ⊥) × (v.0 ≡ a + 1 → ⊥)
-beside_first a v e =
-    let parts = and_parts (not (v.0 == a)) (not (v.0 == a + 1)) e in
-    (differs v.0 a (not_true (v.0 == a) parts.0), differs v.0 (a + 1) (not_true (v.0 == a + 1) parts.1))
+beside_first a v e = grind arith
 
 pub beside_stays : (a : ℕ) (v : Var) → is_beside a (Some v) ≡ true → place_of (swap a) v.0 ≡ v.0
 beside_stays a v e = let no = beside_first a v e in other_stays a v.0 no.0 no.1
@@ -193,17 +177,13 @@ beside_var a v e = λ i. record { 0 = beside_stays a v e i }
 -- ---- where no callback of theirs is under way
 
 stage_same : (a : ℕ) (stage : Stage) → changed_stage (by_names (swap a)) stage ≡ stage
-stage_same a (Poll None) = refl
-stage_same a (Poll (Some deadline)) = refl
-stage_same a stage = refl
+stage_same a stage = grind arith
 
 body_same : (a : ℕ) (b : Option Body) → body_spares a b ≡ true → option_map (changed_body (by_names (swap a))) b ≡ b
-body_same a None e = refl
-body_same a (Some b) e = λ i. Some (record b { name = beside_var a b.name e i })
+body_same a b e = grind (arith, beside_var)
 
 place_same : (a : ℕ) (place : Place) → place_spares a place ≡ true → changed_place (by_names (swap a)) place ≡ place
-place_same a (Main line) e = refl
-place_same a (Running run) e = λ i. Running (record run { stage = stage_same a run.stage i; body = body_same a run.body e i })
+place_same a place e = grind (arith, stage_same, body_same)
 
 module _ (p : Program) (s : State) (a : ℕ) (h : IsReached s) (regular : IsRegular p s) (wide : a + 2 ≤ length s.names) (t : AreTwins s a) where
   abbrev slots : List (Slot Content)
@@ -485,6 +465,5 @@ module _ (p : Program) (s : State) (a : ℕ) (h : IsReached s) (regular : IsRegu
       let place = place_same a s.place t.place in
       λ i. record { ms = or_over (place i) (or_first s.timers (min s.time s.clock)); starts = least_start s.timers s.next_start }
 
-  pub twins_alike : (n : ℕ) → by_name p n (mirrored a s) ≡ by_name p n s
-  twins_alike n = tales_tell p n (mirrored a s) s (mirrored_regular a s wide p regular) regular
-      (ap (λ d. tale_by d n (mirrored a s)) base_same ∙ tale_same (base s) n)
+  pub twins_alike : (n : ℕ) → tale n (mirrored a s) ≡ tale n s
+  twins_alike n = ap (λ d. tale_by d n (mirrored a s)) base_same ∙ tale_same (base s) n

@@ -1,4 +1,4 @@
--- Where a search needs to know no more of a state than its form by names: no bound names the clock, no offer a worker, nothing is held to
+-- Where a search needs to know no more of a state than is told of it: no bound names the clock, no offer a worker, nothing is held to
 -- a recording, and all numbers of ms are small.
 use Rattle.std.specs.Prelude.{ℕ, ◌+◌, ◌^◌, ◌&&◌, not, Bool, true, false, List, [], ◌∷◌, length, Option, Some, None, is_none, max, nat_lt, if◌then◌else◌}
 use Rattle.std.specs.List.{list_all}
@@ -68,13 +68,13 @@ is_common offer = is_aside offer
 abbrev pub are_common : List Offered → Bool
 are_common offers = list_all (λ (offered : Offered). is_common offered.offer) offers
 
--- nothing that is asked tells more of a state than its form by names, and no number is large
+-- nothing that is asked goes by more of a state than is told of it, and no number is large
 abbrev pub asks_no_more : Program → Asked → Bool
 asks_no_more p asked =
     not asked.full && is_none asked.clock && is_none asked.differ && nat_lt LONGEST (arena_size p).last_generation
     && each_op is_small_op p && are_small_offers asked.offers && are_aside asked.offers && are_small_takes asked.takes
 
--- a search needs to know no more of a state than its form by names
+-- a search needs to know no more of a state than is told of it
 abbrev pub may_forget : Program → Asked → Bool
 may_forget p asked = asks_no_more p asked && declares p
 

@@ -11,7 +11,7 @@ use Rattle.uv_model.specs.After.{after, STEPS}
 use Rattle.uv_model.specs.Queries.{run_by}
 use Rattle.uv_shift.specs.Shift.{IsShort}
 use Rattle.uv_slots.specs.NamedForm.{AreDeclared}
-use Rattle.uv_by_name.specs.ByName.{IsRegular}
+use Rattle.uv_tale.specs.Alike.{IsRegular}
 use Rattle.uv_search.specs.Keys.{Has}
 use Rattle.uv_find.specs.declared.finding.Answer.{Answer}
 use Rattle.uv_find.specs.declared.finding.Answer.TheVariants as answer

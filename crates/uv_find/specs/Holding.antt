@@ -86,10 +86,13 @@ test_of tests.IsShort = is_small_op
 test_of tests.IsNoCancel = is_no_cancel
 test_of (tests.Spares first) = spares first
 
--- a worker may take a request at once: workers are alike, no time of a callback is said, and nobody cancels
+-- beside the pool only times, sends and callbacks of I/O come: workers are alike, no time of a callback is said, and none is asked for
+abbrev pub is_of_pool : Program → Asked → Bool
+is_of_pool p asked = may_forget p asked && is_empty asked.takes && not (asks_late asked.question) && are_clear_of_takes asked.offers
+
+-- a worker may take a request at once: so it is, and nobody cancels
 abbrev pub may_take_at_once : Program → Asked → Bool
-may_take_at_once p asked =
-    may_forget p asked && is_empty asked.takes && not (asks_late asked.question) && are_clear_of_takes asked.offers && each_op is_no_cancel p
+may_take_at_once p asked = is_of_pool p asked && each_op is_no_cancel p
 
 -- the number of the loop's step among the moves
 abbrev pub loop_number : Bool → ℕ

@@ -13,3 +13,4 @@ pub mod Spots
 pub mod Steps
 pub mod Found
 pub mod Within
+pub mod SameWork

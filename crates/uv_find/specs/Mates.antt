@@ -20,7 +20,7 @@ use Rattle.uv_asking.specs.declared.asking.Offer.TheVariants.{Step}
 use Rattle.uv_asking.specs.declared.asking.Offered.{Offered}
 use Rattle.uv_asking.specs.declared.asking.Question.{Question}
 use Rattle.uv_asking.specs.declared.asking.Question.TheVariants as asks
-use Rattle.uv_find.specs.Holding.{are_at_will, may_take_at_once}
+use Rattle.uv_find.specs.Holding.{are_at_will, is_of_pool}
 use Rattle.uv_find.specs.Ops.{is_beside, spares, of_main}
 use Rattle.uv_find.specs.Orders.{Rules, Place}
 use Rattle.uv_find.specs.Ranks.{runner}
@@ -61,12 +61,12 @@ abbrev pub mates_of : Program → Asked → ℕ → List Bool
 mates_of p asked zero = []
 mates_of p asked (suc n) = mates_of p asked n ++ is_mate p asked n ∷ []
 
--- where workers take requests at once; and where there are none, nothing is kept
+-- where nothing is asked but of the pool; and where there are none, nothing is kept
 abbrev pub some_mates : Bool → List Bool → List Bool
-some_mates at_once mates = if at_once && list_any (λ b. b) mates then mates else []
+some_mates of_pool mates = if of_pool && list_any (λ b. b) mates then mates else []
 
 abbrev pub mates_in : Program → Asked → List Bool
-mates_in p asked = some_mates (may_take_at_once p asked) (mates_of p asked (length p.callbacks - 1))
+mates_in p asked = some_mates (is_of_pool p asked) (mates_of p asked (length p.callbacks - 1))
 
 -- ---- two that are run
 
@@ -122,4 +122,4 @@ is_covered_by r p (Some rank) =
 
 -- the move of this number finishes a request of which one like it, of the rank before, is run too
 abbrev pub is_covered : Rules → Place → ℕ → Bool
-is_covered r p number = r.at_once && is_covered_by r p (later_rank (worker_count r.program) number)
+is_covered r p number = is_covered_by r p (later_rank (worker_count r.program) number)

@@ -81,9 +81,12 @@ finishes zero = []
 finishes (suc n) = finishes n ++ at_will (Step (event.Finish n)) ∷ []
 
 -- the loop goes on and a worker takes a request, or that first where it is taken at once
+abbrev pub first_offer : Bool → Offer
+first_offer true = Take
+first_offer false = Step event.Loop
+
 abbrev pub first_offers : Bool → List Offered
-first_offers true = at_will Take ∷ at_will (Step event.Loop) ∷ []
-first_offers false = at_will (Step event.Loop) ∷ at_will Take ∷ []
+first_offers at_once = at_will (first_offer at_once) ∷ at_will (first_offer (not at_once)) ∷ []
 
 -- the clock goes on where the loop waits
 abbrev pub is_wait : Offer → Bool

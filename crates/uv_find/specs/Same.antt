@@ -2,27 +2,18 @@
 use Rattle.std.specs.Prelude.{ℕ, zero, suc, ◌+◌, ◌==◌, ◌&&◌, Bool, true, false, nat_eq, List, [], ◌∷◌, Option, Some, None, if◌then◌else◌}
 use Rattle.std.specs.Cmp.Lexicographic.{pointwise}
 use Rattle.uv_ids.specs.declared.id.Var.{Var}
-use Rattle.uv_ids.specs.declared.phase.Kind.{Kind}
-use Rattle.uv_ids.specs.declared.phase.Kind.TheVariants as kind
 use Rattle.uv_script.specs.declared.op.Op.{Op}
 use Rattle.uv_script.specs.declared.op.Op.TheVariants as op
 use Rattle.uv_script.specs.declared.op.CallbackLine.{CallbackLine}
 use Rattle.uv_script.specs.Program.{Program, Callbacks, callbacks_of, op_name}
+use Rattle.uv_state_key.specs.Key.{kind_number}
 use Rattle.uv_work.specs.Tasks.{text_of}
 use Rattle.uv_work.specs.declared.task.Task.{Task}
 
 -- ---- which op it is, by numbers (own)
 
-abbrev pub kind_code : Kind → ℕ
-kind_code kind.Timer = 0
-kind_code kind.Idle = 1
-kind_code kind.Prepare = 2
-kind_code kind.Check = 3
-kind_code kind.Async = 4
-kind_code kind.Io = 5
-
 abbrev pub op_code : Op → ℕ
-op_code (op.Init name k) = kind_code k
+op_code (op.Init name k) = kind_number k
 op_code (op.Start name timeout again) = 6
 op_code (op.StartWatcher name) = 7
 op_code (op.Stop name) = 8

@@ -4,21 +4,20 @@ use Rattle.uv_ids.specs.declared.event.Event.{Event}
 use Rattle.uv_ids.specs.declared.event.Event.TheVariants.{Loop, Finish}
 use Rattle.uv_key.specs.Codes.{number_code}
 use Rattle.uv_model.specs.After.{after, STEPS}
-use Rattle.uv_model.specs.State.{State}
 use Rattle.uv_shift.specs.Shift.{IsShort}
 use Rattle.uv_names.specs.Counts.{AreBefore}
 use Rattle.uv_slots.specs.NamedForm.{AreDeclared}
 use Rattle.uv_state_key.specs.TaleKey.{key_code}
-use Rattle.uv_state_key.specs.Formed.{formed}
+use Rattle.uv_state_key.specs.Formed.{Formed, formed}
 use Rattle.uv_find.specs.Forgetting.{LONG, LONGEST, are_common, most_end, takes_end, question_end, forget_of}
 use Rattle.uv_asking.specs.declared.asking.Offer.TheVariants.{Step, Take}
 use Rattle.uv_asking.specs.declared.asking.Offered.{Offered}
-use Rattle.uv_find.specs.Holding.{can_meet, asks_late, hold_of, is_loop_apart, is_at_will, are_at_will, is_clear_of_takes, is_no_cancel, may_take_at_once, loop_number}
+use Rattle.uv_find.specs.Holding.{can_meet, asks_late, is_empty, hold_of, is_loop_apart, is_at_will, are_at_will, is_clear_of_takes, is_no_cancel, may_take_at_once, loop_number}
 use Rattle.uv_find.specs.Ops.{each_op}
 use Rattle.uv_find.specs.Same.{all_turned}
 use Rattle.uv_find.specs.Mates.{offers_spare, bounds_spare, question_spares, mates_in, has_mate, is_covered}
 use Rattle.uv_find.specs.Kept.{owes}
-use Rattle.uv_find.specs.Orders.{at_will, may_wait, Rules, Place, Led, led, is_brief, every_offer, beginning}
+use Rattle.uv_find.specs.Orders.{at_will, first_offer, may_wait, Rules, Place, Led, led, is_brief, every_offer, beginning}
 use Rattle.uv_find.specs.Questions.{answers}
 use Rattle.uv_find.specs.declared.kept.Along.{Along}
 use Rattle.uv_find.specs.declared.kept.Kept.{Kept}
@@ -39,7 +38,7 @@ abbrev pub is_few : Option ℕ → ℕ → Bool
 is_few (Some n) steps = nat_lt steps LONGEST
 is_few None steps = true
 
--- no more of a state need be known than its form by names, with calls counted so far
+-- no more of a state need be known than is told of it, with calls counted so far
 pub record CanForget (r : Rules) (n : ℕ) : Type 0 where
   -- no number of a call that the script, a bound or the question says is as large, and whether there was one is told
   pub before : AreBefore n r.program
@@ -66,23 +65,29 @@ pub record CanHold (r : Rules) (ticks : Bool) : Type 0 where
   pub takes : r.takes ≡ []
   pub question : asks_late r.question ≡ false
 
--- moves may be held back behind a take, the first offer: behind the loop's step and the finishes by their ranks only times, sends and callbacks of
--- I/O are offered, no line cancels, and workers are alike
-pub record CanTakeAtOnce (r : Rules) : Type 0 where
+-- what workers run may be finished by ranks: beside the loop's step, a take and the finishes only times, sends and callbacks of I/O are offered, and
+-- workers are alike
+pub record AreOfPool (r : Rules) : Type 0 where
   pub counted : ℕ
   pub forgets : r.forget ≡ Some counted
-  pub take : slice_get r.offers 0 ≡ Some (at_will Take)
-  pub loop : slice_get r.offers 1 ≡ Some (at_will (Step Loop))
+  pub first : slice_get r.offers 0 ≡ Some (at_will (first_offer r.at_once))
+  pub second : slice_get r.offers 1 ≡ Some (at_will (first_offer (not r.at_once)))
   pub finishes : (k : ℕ) → k < worker_count r.program → slice_get r.offers (suc (suc k)) ≡ Some (at_will (Step (Finish k)))
   pub others : (i : ℕ) (offered : Offered) → worker_count r.program + 2 ≤ i → slice_get r.offers i ≡ Some offered
       → is_clear_of_takes offered.offer ≡ true
-  pub cancels : each_op is_no_cancel r.program ≡ true
   pub takes : r.takes ≡ []
+
+-- moves may be held back behind a take, the first offer: so it is, and no line cancels
+pub record CanTakeAtOnce (r : Rules) : Type 0 where
+  pub of_pool : AreOfPool r
+  pub take : slice_get r.offers 0 ≡ Some (at_will Take)
+  pub loop : slice_get r.offers 1 ≡ Some (at_will (Step Loop))
+  pub cancels : each_op is_no_cancel r.program ≡ true
   pub question : asks_late r.question ≡ false
 
 -- this name and the next one are alike
 pub record AreMates (r : Rules) (a : ℕ) : Type 0 where
-  pub at_once : r.at_once ≡ true
+  pub of_pool : AreOfPool r
   pub within : a + 1 < length r.program.callbacks
   pub turned : all_turned a r.program (length r.program.callbacks) ≡ true
   pub offers : offers_spare a r.offers ≡ true
@@ -138,7 +143,7 @@ told_due forget question clock due = (due, 0)
 
 -- what tells a place from others: what decides what comes after
 pub record Told : Type 0 where
-  pub state : State
+  pub state : Formed
   pub left : List Left
   pub due : ℕ × ℕ
   pub owed : ℕ
@@ -146,7 +151,7 @@ pub record Told : Type 0 where
 
 abbrev pub told : Rules → Place → Told
 told r p = record {
-  state = formed r.program r.forget p.state;
+  state = formed r.forget p.state;
   left = p.left;
   due = told_due r.forget r.question p.state.clock p.kept.due;
   owed = p.kept.owed;
@@ -196,9 +201,9 @@ covered r s number = is_covered r s.place number
 abbrev pub apart : Rules → Spot → ℕ → Bool
 apart r s number = is_apart r s.place number
 
--- moves may be held back, behind the loop's step or behind a take
+-- moves may be held back, behind the loop's step or behind a take, and the finish of one of two requests that are alike
 abbrev pub holds_back : Rules → Bool
-holds_back r = is_some r.hold || r.at_once
+holds_back r = is_some r.hold || (r.at_once || not (is_empty r.mates))
 
 -- so many steps an order has at most of which it is told what it does: where a search forgets, fewer than a slot has generations, and less
 -- those that a session may have taken where moves are held back

@@ -1,7 +1,8 @@
 //! Where a worker takes a request at once.
-ghost use Rattle.std.specs.Prelude.{◌≡◌};
+ghost use Rattle.std.specs.Prelude.{◌≡◌, ◌&&◌};
 ghost use Rattle.uv_asking.specs.Asked.{asked_in};
-ghost use Rattle.uv_find.specs.Holding.{is_clear_of_takes, are_clear_of_takes, is_no_cancel, may_take_at_once, loop_number};
+ghost use Rattle.uv_find.specs.Holding.{is_clear_of_takes, are_clear_of_takes, is_no_cancel, is_of_pool, loop_number};
+ghost use Rattle.uv_find.specs.Ops.{each_op};
 
 use crate::forgetting::may_forget;
 use crate::holding::asks_late;
@@ -10,15 +11,21 @@ use uv_asking::{Asking, Offer, Offered};
 use uv_ids::Event;
 use uv_script::{Op, Script};
 
-/// Whether a worker may take a request at once: workers are alike, no time of a callback is said, and nobody cancels.
-pub(crate) fn may_take_at_once(script: &Script, asking: &Asking) -> bool
-    ensures { result ≡ may_take_at_once script.now (asked_in asking.now) }
+/// Whether beside the pool only times, sends and callbacks of I/O come: workers are alike, no time of a callback is said, and none is asked for.
+pub(crate) fn is_of_pool(script: &Script, asking: &Asking) -> bool
+    ensures { result ≡ is_of_pool script.now (asked_in asking.now) }
 {
     may_forget(script, asking)
         && asking.takes.is_empty()
         && !asks_late(asking.question)
         && are_clear_of_takes(&asking.offers)
-        && each_op(script, script.names().len(), OpTest::IsNoCancel)
+}
+
+/// Whether a worker may take a request at once: so it is, and nobody cancels.
+pub(crate) fn may_take_at_once(script: &Script, of_pool: bool) -> bool
+    ensures { result ≡ (of_pool && each_op is_no_cancel script.now) }
+{
+    of_pool && each_op(script, script.names().len(), OpTest::IsNoCancel)
 }
 
 /// The number of the loop's step among the moves.

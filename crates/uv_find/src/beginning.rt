@@ -1,6 +1,6 @@
 //! Where a search of orders begins.
 ghost use Rattle.std.specs.Prelude.{◌≡◌, IfOk};
-ghost use Rattle.uv_find.specs.Orders.{at_will, first_offers, every_offer, times_left, times_of, first_left, is_wait, may_wait};
+ghost use Rattle.uv_find.specs.Orders.{at_will, first_offer, first_offers, every_offer, times_left, times_of, first_left, is_wait, may_wait};
 
 use crate::left::Left;
 use crate::sources::sources;
@@ -31,18 +31,24 @@ pub(crate) fn may_wait(offers: &[Offered]) -> bool
     offers.iter().any(|offered| is_wait(offered.offer))
 }
 
+/// The loop's step, or a take where that comes at once.
+fn first_offer(at_once: bool) -> Offer
+    ensures { result ≡ first_offer at_once }
+{
+    if at_once {
+        Offer::Take
+    } else {
+        Offer::Step(Event::Loop)
+    }
+}
+
 /// The offers that the others stand behind: the loop's step and a take, or that first where it comes at once.
 fn first_offers(alloc: Global, at_once: bool) -> Result<Vec<Offered>, AllocError>
     ensures { IfOk result (λ offers. offers.items ≡ first_offers at_once) }
 {
     let mut offers = Vec::new(alloc);
-    if at_once {
-        offers.push(at_will(Offer::Take))?;
-        offers.push(at_will(Offer::Step(Event::Loop)))?;
-    } else {
-        offers.push(at_will(Offer::Step(Event::Loop)))?;
-        offers.push(at_will(Offer::Take))?;
-    }
+    offers.push(at_will(first_offer(at_once)))?;
+    offers.push(at_will(first_offer(!at_once)))?;
     Ok(offers)
 }
 

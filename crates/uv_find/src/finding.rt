@@ -2,12 +2,14 @@
 ghost use Rattle.std.specs.Prelude.{◌≡◌, ◌+◌, ◌*◌, min, false};
 ghost use Rattle.uv_find.specs.Found.{AreRegular, Finds, IsMore, KeysTell, EachFinishes};
 ghost use Rattle.uv_find.specs.Questions.{place_answers};
+ghost use Rattle.uv_find.specs.SameWork.{AnswersStand, DepthStands, NeverStands};
 ghost use Rattle.uv_find.specs.Within.{NearIsWithin};
 
 use crate::orders::Orders;
 use std::alloc::Global;
 use uv_model::{Machine, STEPS};
 use uv_search::{Found, Reached, go_back, search, search_near, shortest};
+use uv_tasks::work_is_free;
 
 /// So many moves are made by breadth where there are more places than may be kept. So many are made to make the steps that are found fewer, so
 /// many more for each place that was kept until then, and so many at most (own): an answer that came at once isn't kept waiting.
@@ -132,3 +134,13 @@ pub fn each_finishes()
 pub fn near_is_within()
     ensures { NearIsWithin }
 {}
+
+/// Which work requests ask for makes no difference to what is found: what is so of the script in which each asks for the same is so of the
+/// script itself. It does nothing else, and is called for its clauses.
+pub fn work_makes_no_difference()
+    ensures answers { AnswersStand }
+    ensures never { NeverStands }
+    ensures depth { DepthStands }
+{
+    work_is_free();
+}

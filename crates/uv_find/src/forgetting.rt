@@ -1,4 +1,4 @@
-//! Where a search needs to know no more of a state than its form by names.
+//! Where a search needs to know no more of a state than is told of it.
 ghost use Rattle.std.specs.Prelude.{◌≡◌, length};
 ghost use Rattle.uv_script.specs.Program.{IsWhole, callbacks_of};
 ghost use Rattle.uv_names.specs.Counts.{call_end, lines_end, callbacks_end, script_end};
@@ -29,7 +29,7 @@ pub(crate) fn forget_of(script: &Script, asking: &Asking) -> Option<u64>
     }
 }
 
-/// Whether a search needs to know no more of a state than its form by names. Then the states of a script that repeats may come round again.
+/// Whether a search needs to know no more of a state than is told of it. Then the states of a script that repeats may come round again.
 /// Each op of a script that was read names a declared name, so that isn't tested.
 pub fn may_forget(script: &Script, asking: &Asking) -> bool
     ensures { result ≡ may_forget script.now (asked_in asking.now) }
@@ -37,7 +37,7 @@ pub fn may_forget(script: &Script, asking: &Asking) -> bool
     asks_no_more(script, asking, script.names().len())
 }
 
-/// Whether nothing that is asked tells more of a state than its form by names, and no number is large.
+/// Whether nothing that is asked goes by more of a state than is told of it, and no number is large.
 fn asks_no_more(script: &Script, asking: &Asking, names: usize) -> bool
     requires whole { IsWhole script.now }
     requires names { names ≡ length script.now.names }

@@ -28,6 +28,7 @@ mod terms;
 pub use choices::{Choice, Moved, Taken};
 pub use finding::{
     Answer, each_finishes, find, find_any, near_is_within, place_keys_tell, states_are_regular,
+    work_makes_no_difference,
 };
 pub use forgetting::may_forget;
 pub use kept::{Along, Kept};

@@ -9,7 +9,7 @@ ghost use Rattle.uv_model.specs.Bounds.{line_of};
 ghost use Rattle.uv_model.specs.State.{request};
 ghost use Rattle.uv_find.specs.Ops.{is_beside, spares};
 ghost use Rattle.uv_find.specs.Mates.{offer_spares, offers_spare, bounds_spare, question_spares, is_mate, mates_of, some_mates, mates_in, has_mate, main_spares, place_spares, same_calls, are_alike, are_run_alike, run_of, request_of, later_rank};
-ghost use Rattle.uv_find.specs.Holding.{may_take_at_once};
+ghost use Rattle.uv_find.specs.Holding.{is_of_pool};
 ghost use Rattle.uv_find.specs.Ranks.{runner};
 ghost use Rattle.uv_find.specs.Spots.{rules_by};
 
@@ -125,17 +125,17 @@ fn are_some(mates: &[bool]) -> bool
     mates.iter().any(|mate| *mate)
 }
 
-/// Of each name, whether it is like the next one. Nothing, where workers take no requests at once, or no two names are alike.
+/// Of each name, whether it is like the next one. Nothing, where more is asked than of the pool, or no two names are alike.
 pub(crate) fn mates_in(
     alloc: Global,
     script: &Script,
     asking: &Asking,
-    at_once: bool,
+    of_pool: bool,
 ) -> Result<Vec<bool>, AllocError>
-    requires { at_once ≡ may_take_at_once script.now (asked_in asking.now) }
+    requires { of_pool ≡ is_of_pool script.now (asked_in asking.now) }
     ensures { IfOk result (λ mates. mates.items ≡ mates_in script.now (asked_in asking.now)) }
 {
-    if !at_once {
+    if !of_pool {
         return Ok(Vec::new(alloc));
     }
     let mates = mates_of(alloc, script, asking, script.names().len())?;

@@ -352,7 +352,7 @@ impl<M: Machine> Orders<M> {
     fn is_covered_here(&self, number: usize) -> bool
         ensures { result ≡ is_covered self.now.rules self.now.spot.place number }
     {
-        if !self.terms.at_once || self.terms.mates.is_empty() {
+        if self.terms.mates.is_empty() {
             return false;
         }
         let workers = self.session.machine().script().workers();

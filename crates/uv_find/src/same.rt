@@ -1,31 +1,19 @@
 //! Callbacks that do the same, except for their own names.
 ghost use Rattle.std.specs.Prelude.{◌≡◌, ◌+◌, ◌<◌, ◌≤◌};
 ghost use Rattle.uv_script.specs.Program.{callbacks_of, lines_in};
-ghost use Rattle.uv_find.specs.Same.{kind_code, op_code, op_times, op_task, other_name, same_task, same_tasks, turned_name, same_call, turned_op, turned_line, turned_lines, turned_callbacks, all_turned};
+ghost use Rattle.uv_find.specs.Same.{op_code, op_times, op_task, other_name, same_task, same_tasks, turned_name, same_call, turned_op, turned_line, turned_lines, turned_callbacks, all_turned};
 
 use crate::questions::op_name;
-use uv_ids::{Callback, Kind, Var};
+use uv_ids::{Callback, Var};
 use uv_script::{CallbackLine, Op, Script};
+use uv_state_key::kind_number;
 use uv_work::Task;
-
-fn kind_code(kind: Kind) -> u8
-    ensures { result ≡ kind_code kind }
-{
-    match kind {
-        Kind::Timer => 0,
-        Kind::Idle => 1,
-        Kind::Prepare => 2,
-        Kind::Check => 3,
-        Kind::Async => 4,
-        Kind::Io => 5,
-    }
-}
 
 fn op_code(op: Op) -> u8
     ensures { result ≡ op_code op }
 {
     match op {
-        Op::Init(_, kind) => kind_code(kind),
+        Op::Init(_, kind) => kind_number(kind),
         Op::Start(_, _, _) => 6,
         Op::StartWatcher(_) => 7,
         Op::Stop(_) => 8,

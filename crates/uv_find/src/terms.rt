@@ -4,7 +4,7 @@ ghost use Rattle.uv_asking.specs.Asked.{asked_in};
 ghost use Rattle.uv_find.specs.Orders.{move_count_by};
 ghost use Rattle.uv_find.specs.Spots.{rules_by, rules_of};
 
-use crate::at_once::may_take_at_once;
+use crate::at_once::{is_of_pool, may_take_at_once};
 use crate::beginning::{every_offer, may_wait};
 use crate::forgetting::forget_of;
 use crate::holding::hold_of;
@@ -41,7 +41,8 @@ pub struct Terms {
 pub(crate) fn terms_of(alloc: Global, script: &Script, asking: &Asking) -> Result<Terms, AllocError>
     ensures { IfOk result (λ terms. rules_by script.now terms ≡ rules_of script.now (asked_in asking.now)) }
 {
-    let at_once = may_take_at_once(script, asking);
+    let of_pool = is_of_pool(script, asking);
+    let at_once = may_take_at_once(script, of_pool);
     let offers = every_offer(alloc, at_once, script.workers(), &asking.offers)?;
     let mut recorded = Vec::new(alloc);
     recorded.extend_from_slice(&asking.recorded)?;
@@ -49,7 +50,7 @@ pub(crate) fn terms_of(alloc: Global, script: &Script, asking: &Asking) -> Resul
     takes.extend_from_slice(&asking.takes)?;
     let mut most = Vec::new(alloc);
     most.extend_from_slice(&asking.most)?;
-    let mates = mates_in(alloc, script, asking, at_once)?;
+    let mates = mates_in(alloc, script, asking, of_pool)?;
     Ok(Terms {
         offers,
         differ: asking.differ,

@@ -1,33 +1,26 @@
 -- The youngest form of a state, and that of the state once its slots were freed more often.
-use Rattle.uv_generations.proofs.Names.{◌≡◌, ℕ, zero, suc, ◌+◌, ◌==◌, List, [], ◌∷◌, Bool, true, false, Option, Some, None, slice_get, option_and_then, refl, ap, sym, ◌∙◌, arith, if◌then◌else◌, Id, Slot, Content, Named, State, Program, held_in}
-use Rattle.std.proofs.Common.{subst}
-use Rattle.std.specs.Prelude.{map, option_map, min, ◌-◌, ◌≤◌}
+use Rattle.uv_alike.proofs.Names.{◌≡◌, ℕ, zero, suc, ◌+◌, List, [], ◌∷◌, Option, Some, None, slice_get, option_and_then, refl, ap, ◌∙◌, arith, Id, Slot, Content, Named, State, Program, held_in}
+use Rattle.std.specs.Prelude.{map, option_map, ◌-◌, ◌≤◌}
 use Rattle.uv_order.specs.Active.{run_ids}
 use Rattle.uv_records.specs.declared.lists.WatcherKind.TheVariants as watcher
 use Rattle.uv_generations.specs.Renamed as any
 use Rattle.uv_generations.specs.Renamed.{Renaming, renamed}
 use Rattle.uv_generations.specs.More.{Frees, freed_more, more}
-use Rattle.uv_generations.specs.Youngest.{freed_less, or_bound, least_bound, least_of, surplus, youngest, IsInSlot, IsYoung}
-use Rattle.uv_generations.proofs.More.{rename, renamed_named}
+use Rattle.uv_generations.specs.Youngest.{freed_less, least_bound, least_of, surplus, youngest, IsInSlot, IsYoung}
+use Rattle.uv_generations.proofs.More.{renamed_named}
 use Rattle.uv_generations.proofs.Slots.{get_renamed}
 use Rattle.uv_generations.proofs.Twice.{both, twice, has_front, has_behind, ids_same, walk_same, running_same, timers_same, slots_same}
 
 -- ---- none of its ids is younger than its surplus
 
-or_least : (slot : ℕ) (o : Option Id) (least : ℕ) → or_bound slot o least ≤ least
-or_least slot o least = grind arith
-
 bound_least : (slot : ℕ) (ns : List Named) (least : ℕ) → least_bound slot ns least ≤ least
 bound_least slot [] least = omega arith
-bound_least slot (n ∷ ns) least = grind (arith, or_least, (bound_least slot ns least))
+bound_least slot (n ∷ ns) least = grind (arith, (bound_least slot ns least))
 
 -- a name stands among the names
 named_least : (ns : List Named) (i : ℕ) (n : Named) (id : Id) (least : ℕ) → slice_get ns i ≡ Some n → n.id ≡ Some id →
     least_bound id.slot ns least ≤ id.generation
-named_least (x ∷ xs) (suc i) n id least e f =
-    let l = or_least id.slot x.id (least_bound id.slot xs least) in
-    let m = named_least xs i n id least e f in
-    omega (arith, l, m)
+named_least (x ∷ xs) (suc i) n id least e f = grind (arith, (named_least xs i n id least e f))
 named_least each e1 n id least e f = grind arith
 
 -- ---- what is made younger, and older again
@@ -45,12 +38,6 @@ pub slot_of : (slots : List (Slot Content)) (id : Id) (x : Content) (o : Option 
     (slot : Slot Content) × (o ≡ Some slot) × (slot.generation ≡ id.generation)
 slot_of slots id x o e = grind arith
 
-held_least : (s : State) (id : Id) → IsInSlot s id → surplus s id.slot ≤ id.generation
-held_least s id h = grind (arith, slot_of, bound_least)
-
-name_least : (s : State) (i : ℕ) (n : Named) (id : Id) → slice_get s.names i ≡ Some n → n.id ≡ Some id → surplus s id.slot ≤ id.generation
-name_least s i n id e f = grind (arith, named_least)
-
 names_same : (f : Renaming) (ns : List Named) →
     ((i : ℕ) (n : Named) (id : Id) → slice_get ns i ≡ Some n → n.id ≡ Some id → any.rename f id ≡ id) → map (any.renamed_named f) ns ≡ ns
 names_same f [] h = refl
@@ -62,16 +49,13 @@ names_same f (n ∷ ns) h =
       by None e = refl
       by (Some id) e = ap Some (h zero n id refl e)
 
-slot_least : (s : State) (n : ℕ) (slot : Slot Content) → slice_get s.arena.slots n ≡ Some slot → surplus s n ≤ slot.generation
-slot_least s n slot e = grind (arith, bound_least)
-
 -- the youngest form, whose slots were freed more often by as much as those of the state itself, is the state
 pub youngest_more : (p : Program) (s : State) → IsYoung p s → more (surplus s) (youngest s) ≡ s
 youngest_more p s h =
     let f = again (surplus s) in
-    let each : (id : Id) → IsInSlot s id → any.rename f id ≡ id = λ id k. id_again (surplus s) id (held_least s id k) in
-    let names = names_same f s.names (λ i n id e k. id_again (surplus s) id (name_least s i n id e k)) in
-    let slots = slots_same f s.arena.slots (λ n slot e. back_again slot.generation (surplus s n) (slot_least s n slot e)) in
+    let each : (id : Id) → IsInSlot s id → any.rename f id ≡ id = λ id k. id_again (surplus s) id (grind (arith, slot_of, bound_least)) in
+    let names = names_same f s.names (λ i n id e k. id_again (surplus s) id (grind (arith, named_least))) in
+    let slots = slots_same f s.arena.slots (λ n slot e. back_again slot.generation (surplus s n) (grind (arith, bound_least))) in
     let timers = timers_same f s.timers (λ due id k. each id (h.timers due id k)) in
     let ready = ids_same f s.ready (λ id k. each id (h.ready id k)) in
     let idle = walk_same f s.watchers.idle (λ id k. each id (h.watchers watcher.Idle id k)) in
@@ -86,14 +70,10 @@ youngest_more p s h =
 
 -- ---- however often slots were freed more, the youngest form is the same
 
-or_more : (k : Frees) (slot : ℕ) (o : Option Id) (least : ℕ) →
-    or_bound slot (option_map (rename k) o) (least + k slot) ≡ or_bound slot o least + k slot
-or_more k slot o least = grind arith
-
 bound_more : (k : Frees) (slot : ℕ) (ns : List Named) (least : ℕ) →
     least_bound slot (map (renamed_named k) ns) (least + k slot) ≡ least_bound slot ns least + k slot
 bound_more k slot [] least = refl
-bound_more k slot (n ∷ ns) least = grind (arith, or_more, (bound_more k slot ns least))
+bound_more k slot (n ∷ ns) least = grind (arith, (bound_more k slot ns least))
 
 base_more : (k : Frees) (s : State) (slot : ℕ) → (slice_get s.arena.slots slot ≡ None → k slot ≡ 0)
     → surplus (more k s) slot ≡ surplus s slot + k slot

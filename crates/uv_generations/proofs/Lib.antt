@@ -5,4 +5,4 @@ pub mod Twice
 pub mod Base
 pub mod Alike
 pub mod Reached
-pub mod Bare
+pub mod Early

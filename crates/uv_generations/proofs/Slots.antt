@@ -1,14 +1,12 @@
 -- The slots of a state that is renamed, and what its ids hold: they are named anew, so the loop goes on alike.
-use Rattle.uv_generations.proofs.Names.{◌≡◌, ℕ, zero, suc, ◌+◌, ◌<◌, List, [], ◌∷◌, ◌++◌, length, Bool, false, true, Option, Some, None, refl, ap, ◌∙◌, arith, option_and_then, slice_get, slice_set, list_any, ◌==◌, ◌&&◌, eqb-true, Id, Var, Event, Slot, Content, State, Program, arena_size, named, handle, handle_in, held, held_in, id_of, Slots, next_id, taken_from, freed, same_id, if◌then◌else◌}
+use Rattle.uv_alike.proofs.Names.{◌≡◌, ℕ, suc, ◌+◌, ◌<◌, List, [], ◌∷◌, ◌++◌, length, Bool, Option, Some, None, refl, ap, ◌∙◌, arith, option_and_then, slice_get, slice_set, list_any, Id, Event, Slot, Content, State, Program, held, held_in, Slots, next_id, taken_from, freed, same_id}
 use Rattle.std.specs.Prelude.{◌||◌, option_map}
 use Rattle.std.proofs.lemmas.List.{length-set}
-use Rattle.uv_records.specs.Slots.{next_unused}
 use Rattle.uv_model.specs.Next.{next}
 use Rattle.uv_slots.proofs.Relabel.{Relabel}
-use Rattle.uv_slots.proofs.RelabeledSlots.{named_relabeled}
 use Rattle.uv_slots.proofs.Relabeling.{next_relabeled}
 use Rattle.uv_generations.specs.More.{Frees, CanRename}
-use Rattle.uv_generations.proofs.More.{rename, renamed, renamed_named, renamed_slots, renamed_arena, renamed_next}
+use Rattle.uv_generations.proofs.More.{rename, renamed, renamed_slots, renamed_arena, renamed_next}
 
 -- ---- slots
 
@@ -55,24 +53,13 @@ any_slot k test (x ∷ xs) = ap (λ (b : Bool). test x.content || b) (any_slot (
 
 -- ---- slots taken and freed
 
-id_at : (k : Frees) (n : ℕ) (o : Option (Slot Content)) →
-    option_and_then (λ (slot : Slot Content). Some (id_of n slot)) (option_map (renamed_slot (k n)) o)
-    ≡ option_map (rename k) (option_and_then (λ (slot : Slot Content). Some (id_of n slot)) o)
-id_at k n o = grind arith
-
-unused_at : (k : Frees) (used unused : ℕ) → k used ≡ 0 → next_unused used unused ≡ option_map (rename k) (next_unused used unused)
-unused_at k used unused e = grind arith
-
 pub next_id_renamed : (k : Frees) (slots : List (Slot Content)) (unused : ℕ) (free : List ℕ) → k (length slots) ≡ 0 →
     next_id (renamed_slots k slots) unused free ≡ option_map (rename k) (next_id slots unused free)
-next_id_renamed k slots unused free e = grind (arith, length_renamed, unused_at, get_renamed, id_at)
+next_id_renamed k slots unused free e = grind (arith, length_renamed, get_renamed)
 
 pub taken_from_renamed : (k : Frees) (free : List ℕ) (id : Id) (x : Content) (a : Slots Content) → k (length a.slots) ≡ 0 →
     taken_from free (rename k id) x (renamed_arena k a) ≡ renamed_arena k (taken_from free id x a)
 taken_from_renamed k free id x a e = grind (arith, push_renamed, set_renamed)
-
-not_last : (a last : ℕ) → a < last → (a == last) ≡ false
-not_last a last l = grind arith
 
 freed_renamed : (k : Frees) (last : ℕ) (id : Id) (a : Slots Content) → id.generation + k id.slot < last →
     freed last (rename k id) (renamed_arena k a) ≡ renamed_arena k (freed last id a)
@@ -83,7 +70,7 @@ freed_renamed k last id a l =
       slots = slice_set slots id.slot (record { generation = g; content = None });
       free = id.slot ∷ a.free;
     } in
-    grind (arith, not_last, set_renamed)
+    grind (arith, set_renamed)
 
 -- ---- slots that were freed more often are named anew
 
@@ -105,9 +92,6 @@ by_frees k = record {
   finds = λ a e. next_id_renamed k a.slots a.unused a.free e;
   takes = λ a id x e. taken_from_renamed k a.free id x a e;
 }
-
-pub named_renamed : (k : Frees) (s : State) (v : Var) → named (renamed k s) v ≡ renamed_named k (named s v)
-named_renamed k s v = named_relabeled (by_frees k) s v
 
 pub next_renamed : (p : Program) (k : Frees) (s : State) (e : Event) → CanRename p k s → next p (renamed k s) e ≡ renamed_next k (next p s e)
 next_renamed p k s e can = next_relabeled p (by_frees k) s e (grind (arith, freed_renamed))

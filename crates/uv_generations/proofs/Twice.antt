@@ -1,12 +1,10 @@
 -- What becomes of a state that is renamed twice, and where no id becomes another.
-use Rattle.uv_generations.proofs.Names.{◌≡◌, ℕ, zero, suc, List, [], ◌∷◌, ◌++◌, true, Option, Some, None, slice_get, refl, ap, ap₂, Id, Due, Seen, Slot, Content, Named, State, Walk}
+use Rattle.uv_alike.proofs.Names.{◌≡◌, ℕ, suc, List, [], ◌∷◌, ◌++◌, true, Option, Some, None, slice_get, refl, ap, ap₂, Id, Due, Slot, Content, Named, State}
+use Rattle.uv_generations.proofs.Names.{Walk}
 use Rattle.std.proofs.Common.{arith, inl, inr}
 use Rattle.std.specs.Prelude.{map, option_map}
-use Rattle.uv_ids.specs.declared.code.Answer.{Answer}
-use Rattle.uv_ids.specs.declared.seen.Seen.TheVariants as seen
 use Rattle.uv_order.specs.Active.{has_id, run_ids, Has}
-use Rattle.uv_generations.specs.Renamed.{Renaming, rename, renamed_walk, renamed_named, renamed_slots, renamed_entry, renamed, renamed_answer, renamed_line}
-use Rattle.uv_generations.specs.Youngest.{unfreed, unfreed_line}
+use Rattle.uv_generations.specs.Renamed.{Renaming, rename, renamed_walk, renamed_named, renamed_slots, renamed_entry, renamed}
 
 -- ---- twice
 
@@ -17,20 +15,14 @@ ids_twice : (f g : Renaming) (ids : List Id) → map (rename f) (map (rename g) 
 ids_twice f g [] = refl
 ids_twice f g (id ∷ ids) = ap (λ (xs : List Id). rename (both f g) id ∷ xs) (ids_twice f g ids)
 
-walk_twice : (f g : Renaming) (w : Walk Id) → renamed_walk f (renamed_walk g w) ≡ renamed_walk (both f g) w
-walk_twice f g w = simp ids_twice
-
-id_twice : (f g : Renaming) (o : Option Id) → option_map (rename f) (option_map (rename g) o) ≡ option_map (rename (both f g)) o
-id_twice f g o = grind arith
-
 running_twice : (f g : Renaming) (running : List (Option Id)) →
     map (option_map (rename f)) (map (option_map (rename g)) running) ≡ map (option_map (rename (both f g))) running
 running_twice f g [] = refl
-running_twice f g (o ∷ os) = ap₂ (λ (x : Option Id) (xs : List (Option Id)). x ∷ xs) (id_twice f g o) (running_twice f g os)
+running_twice f g (o ∷ os) = ap₂ (λ (x : Option Id) (xs : List (Option Id)). x ∷ xs) (grind arith) (running_twice f g os)
 
 names_twice : (f g : Renaming) (ns : List Named) → map (renamed_named f) (map (renamed_named g) ns) ≡ map (renamed_named (both f g)) ns
 names_twice f g [] = refl
-names_twice f g (n ∷ ns) = ap₂ (λ (x : Option Id) (xs : List Named). record n { id = x } ∷ xs) (id_twice f g n.id) (names_twice f g ns)
+names_twice f g (n ∷ ns) = ap₂ (λ (x : Option Id) (xs : List Named). record n { id = x } ∷ xs) (grind arith) (names_twice f g ns)
 
 timers_twice : (f g : Renaming) (ts : List (Due × Id)) → map (renamed_entry f) (map (renamed_entry g) ts) ≡ map (renamed_entry (both f g)) ts
 timers_twice f g [] = refl
@@ -41,10 +33,7 @@ slots_twice f g [] = refl
 slots_twice f g (x ∷ xs) = cc (slots_twice (λ n. f (suc n)) (λ n. g (suc n)) xs)
 
 pub twice : (f g : Renaming) (s : State) → renamed f (renamed g s) ≡ renamed (both f g) s
-twice f g s = simp (names_twice, slots_twice, timers_twice, ids_twice, walk_twice, running_twice)
-
-pub lines_unfreed : (f : Renaming) (o : Option Seen) → option_map unfreed_line (option_map (renamed_line f) o) ≡ option_map unfreed_line o
-lines_unfreed f o = grind arith
+twice f g s = simp (names_twice, slots_twice, timers_twice, ids_twice, running_twice)
 
 -- ---- where no id becomes another
 

@@ -1,4 +1,3 @@
 pub mod Renamed
 pub mod More
 pub mod Youngest
-pub mod Bare

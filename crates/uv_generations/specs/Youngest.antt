@@ -1,9 +1,8 @@
 -- The youngest form of a state: each slot freed as few times as can be, for the names that are bound to it. States that have it in common
 -- differ in nothing else.
-use Rattle.std.specs.Prelude.{◌≡◌, ◌==◌, ◌++◌, ◌<◌, ℕ, ◌-◌, List, [], ◌∷◌, true, Option, Some, None, option_map, min, slice_get, if◌then◌else◌}
+use Rattle.std.specs.Prelude.{◌≡◌, ◌==◌, ◌++◌, ◌<◌, ℕ, ◌-◌, List, [], ◌∷◌, true, Option, Some, None, min, slice_get, if◌then◌else◌}
 use Rattle.uv_ids.specs.declared.id.Id.{Id}
 use Rattle.uv_ids.specs.declared.due.Due.{Due}
-use Rattle.uv_ids.specs.declared.seen.Seen.{Seen}
 use Rattle.uv_script.specs.Program.{Program, arena_size}
 use Rattle.uv_records.specs.declared.lists.WatcherKind.{WatcherKind}
 use Rattle.uv_records.specs.declared.named.Named.{Named}
@@ -11,9 +10,8 @@ use Rattle.uv_records.specs.declared.slot.Slot.{Slot}
 use Rattle.uv_records.specs.Slots.{held}
 use Rattle.uv_work.specs.declared.content.Content.{Content}
 use Rattle.uv_model.specs.State.{State, watched}
-use Rattle.uv_model.specs.Next.{Next, Moves}
 use Rattle.uv_order.specs.Active.{has_id, run_ids, Has}
-use Rattle.uv_generations.specs.Renamed.{Renaming, renamed, renamed_line}
+use Rattle.uv_generations.specs.Renamed.{Renaming, renamed}
 use Rattle.uv_generations.specs.More.{Frees}
 
 abbrev pub freed_less : Frees → Renaming
@@ -61,21 +59,3 @@ pub record IsYoung (p : Program) (s : State) : Type 0 where
   pub opened : (id : Id) → has_id (s.waiting ++ run_ids s.running) id ≡ true → IsInSlot s id
   pub done : (id : Id) → has_id (s.done.list ++ s.done.yet) id ≡ true → IsInSlot s id
   pub left : (id : Id) (x : Content) → held s.arena.slots id ≡ Some x → id.generation < (arena_size p).last_generation
-
--- ---- steps that are the same except for the generations
-
-abbrev pub unfreed : Renaming
-unfreed = λ slot generation. 0
-
--- a line whose ids have no generation
-abbrev pub unfreed_line : Seen → Seen
-unfreed_line line = renamed_line unfreed line
-
--- this step, too, is taken: it comes to a state with the youngest form of the other one, with a line that is the same except for the
--- generations of its ids
-pub record TakesAlike (x : Next) (t : State) (line : Option Seen) : Type 0 where
-  pub state : State
-  pub says : Option Seen
-  pub takes : x ≡ Moves state says
-  pub same : youngest state ≡ youngest t
-  pub same_line : option_map unfreed_line says ≡ option_map unfreed_line line

@@ -1,9 +1,9 @@
 //! Slots that were freed more often: the loop goes on alike.
 //!
-//! Its calls have no code: each is a theorem. Read `specs/Renamed.antt`, `More.antt`,
-//! `Youngest.antt` and `Bare.antt`.
+//! Its calls have no code: each is a theorem. Read `specs/Renamed.antt`, `More.antt` and
+//! `Youngest.antt`.
 #![tactic(auto)]
 
 mod laws;
 
-pub use laws::{bare_alike, generations_rename, takes_alike, youngest_form};
+pub use laws::{generations_rename, stays_young, youngest_form};

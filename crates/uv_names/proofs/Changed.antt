@@ -1,40 +1,18 @@
 -- A state whose names are changed, each by a function that a step can't tell: which is live stays. And the ops in it.
-use Rattle.std.proofs.Common.{◌≡◌, ℕ, ◌==◌, List, [], ◌∷◌, ◌++◌, true, false, Option, Some, None, Result, Ok, Err, refl, ap, sym, ◌∙◌, slice_get, unwrap_or}
+use Rattle.std.proofs.Common.{◌≡◌, ℕ, List, Option, Some, None, refl, ap, sym, ◌∙◌, slice_get, unwrap_or}
 use Rattle.std.specs.Prelude.{map, option_map}
-use Rattle.std.specs.List.{list_any}
 use Rattle.std.proofs.lemmas.List.{map-set}
 use Rattle.std.proofs.lemmas.Option.{slice_get-map}
 use Rattle.uv_ids.specs.declared.id.Id.{Id}
 use Rattle.uv_ids.specs.declared.id.Var.{Var}
-use Rattle.uv_ids.specs.declared.phase.Kind.{Kind}
-use Rattle.uv_ids.specs.declared.code.Code.{Code}
-use Rattle.uv_ids.specs.declared.code.Answer.TheVariants as answer
-use Rattle.uv_script.specs.declared.op.Op.{Op}
-use Rattle.uv_script.specs.declared.op.Op.TheVariants as op
-use Rattle.uv_records.specs.declared.handle.HandleRecord.{HandleRecord}
-use Rattle.uv_records.specs.declared.lists.WatcherKind.{WatcherKind}
 use Rattle.uv_records.specs.declared.named.Named.{Named}
-use Rattle.uv_records.specs.Dues.{due_in}
-use Rattle.uv_records.specs.Handles.{is_async, inited, activated}
-use Rattle.uv_records.specs.Lists.{watcher_kind}
 use Rattle.uv_records.specs.Names.{unbound}
-use Rattle.uv_records.specs.Refusals.{no_refusal, timer_refusal, start_timer_refusal, start_watcher_refusal, stop_refusal, again_refusal, close_refusal, send_refusal}
-use Rattle.uv_records.specs.Slots.{next_free, taken}
-use Rattle.uv_work.specs.declared.content.Content.{Content}
-use Rattle.uv_work.specs.declared.content.Content.TheVariants as content
-use Rattle.uv_work.specs.declared.request.Request.{Request}
-use Rattle.uv_work.specs.declared.task.Task.{Task}
-use Rattle.uv_work.specs.Requests.{queued}
+use Rattle.uv_records.specs.Slots.{next_free}
 use Rattle.uv_model.specs.declared.place.Body.{Body}
 use Rattle.uv_model.specs.declared.place.Run.{Run}
 use Rattle.uv_model.specs.declared.place.Place.{Place}
 use Rattle.uv_model.specs.declared.place.Place.TheVariants.{Main, Running}
-use Rattle.uv_model.specs.Found.{found_or}
-use Rattle.uv_model.specs.Ids.{same_id}
-use Rattle.uv_model.specs.State.{State, named, with_named, with_handle, live, live_id, live_handle, live_request, as_handle, as_request}
-use Rattle.uv_model.specs.Timers.{restarted, stopped}
-use Rattle.uv_model.specs.Ops as ops
-use Rattle.uv_model.specs.Ops.{Coded, do_op}
+use Rattle.uv_model.specs.State.{State, named, with_named, live, live_id}
 
 abbrev pub changed_body : (ℕ → ℕ) → Body → Body
 changed_body c body = record body { call = c body.call }

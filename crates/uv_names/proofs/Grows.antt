@@ -1,5 +1,5 @@
 -- No slot goes back to an earlier generation.
-use Rattle.std.proofs.Common.{◌≡◌, ℕ, suc, zero, ◌+◌, ◌≤◌, ◌==◌, List, [], ◌∷◌, ◌++◌, Option, Some, refl, subst, arith, option_and_then, slice_get, slice_set}
+use Rattle.std.proofs.Common.{◌≡◌, ℕ, suc, zero, ◌≤◌, ◌==◌, List, [], ◌∷◌, ◌++◌, Option, Some, refl, subst, arith, option_and_then, slice_get, slice_set}
 use Rattle.std.proofs.lemmas.Bool.{cond_both}
 use Rattle.std.proofs.lemmas.Grind.{elements}
 use Rattle.uv_ids.specs.declared.event.Event.{Event}
@@ -24,22 +24,16 @@ abbrev AtMost : List (Slot Content) → ℕ → ℕ → Type 0
 AtMost xs n generation = (x : Slot Content) → slice_get xs n ≡ Some x → x.generation ≤ generation
 
 set_grow : (xs : List (Slot Content)) (n : ℕ) (new : Slot Content) → AtMost xs n new.generation → Grow xs (slice_set xs n new)
-set_grow [] n new most i x e = (x, e, omega arith)
 set_grow (a ∷ rest) zero new most zero x e = (new, refl, most x e)
-set_grow (a ∷ rest) zero new most (suc i) x e = (x, e, omega arith)
-set_grow (a ∷ rest) (suc n) new most zero x e = (x, e, omega arith)
 set_grow (a ∷ rest) (suc n) new most (suc i) x e = set_grow rest n new most i x e
+set_grow each e1 new most e4 x e = grind arith
 
 push_grow : (xs ys : List (Slot Content)) → Grow xs (xs ++ ys)
-push_grow [] ys i x e = cc e
-push_grow (a ∷ rest) ys zero x e = (x, e, omega arith)
 push_grow (a ∷ rest) ys (suc i) x e = push_grow rest ys i x e
+push_grow each ys e2 x e = grind arith
 
 then_grow : (xs ys zs : List (Slot Content)) → Grow xs ys → Grow ys zs → Grow xs zs
-then_grow xs ys zs one two i x e =
-    let a = one i x e in
-    let b = two i a.0 a.1 in
-    (b.0, b.1, omega (arith, a.2, b.2))
+then_grow xs ys zs one two i x e = grind arith
 
 -- ---- what is held, made and freed
 

@@ -14,10 +14,10 @@ use Rattle.uv_model.specs.declared.place.Body.{Body}
 use Rattle.uv_model.specs.declared.place.Run.{Run}
 use Rattle.uv_model.specs.declared.place.Place.{Place}
 use Rattle.uv_model.specs.declared.place.Place.TheVariants.{Main, Running}
-use Rattle.uv_model.specs.State.{State, live, live_id, named, with_id, with_named}
+use Rattle.uv_model.specs.State.{State, live_id, named, with_id, with_named}
 use Rattle.uv_model.specs.Next as steps
 use Rattle.uv_model.specs.Next.{Next, Moves, Refuses, next}
-use Rattle.uv_names.proofs.Changed.{as_is, changed, changed_body, changed_run, changed_place, Hides, live_changed, named_changed, with_named_changed}
+use Rattle.uv_names.proofs.Changed.{as_is, changed, changed_body, changed_run, changed_place, Hides, named_changed, with_named_changed}
 use Rattle.uv_names.proofs.Walk.{SeesAlike, step_alike}
 
 -- a name bound to the id that `g` gives for its own
@@ -68,9 +68,6 @@ module _ (g : Id → Id) where
       live_same : (o : Option Id) → live_id s (option_map g o) ≡ live_id s o
       live_same None = refl
       live_same (Some id) = can.live id
-
-  pub live_rebound : (s : State) → HidesIds g s → (v : Var) → live (rebound g s) v ≡ live s v
-  live_rebound s can v = ap (λ u. live u v) (sym (as_changed s)) ∙ live_changed (rebound_name g) as_is as_is s (hides s can) v
 
   call_alike : (p : Program) (u : State) (run : Run) (kind : Callback) (v : Var) (line : Seen) →
       steps.calls p (changed (rebound_name g) as_is as_is u) (changed_run as_is run) kind v line ≡ rebound_next g (steps.calls p u run kind v line)

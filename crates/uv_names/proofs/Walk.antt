@@ -1,7 +1,6 @@
 -- A step of the loop from a state whose names are changed so that no step can tell: it is a change of the state.
 use Rattle.std.proofs.Common.{◌≡◌, ◌∙◌, ℕ, List, Option, Some, refl, ap, ap₂, sym, arith, slice_set}
 use Rattle.uv_ids.specs.declared.event.Event.{Event}
-use Rattle.uv_ids.specs.declared.event.Event.TheVariants.{Take, Finish, Tick}
 use Rattle.uv_ids.specs.declared.id.Id.{Id}
 use Rattle.uv_ids.specs.declared.id.Var.{Var}
 use Rattle.uv_ids.specs.declared.seen.Callback.{Callback}
@@ -22,9 +21,9 @@ use Rattle.uv_model.specs.Next as steps
 use Rattle.uv_model.specs.Next.{Next, next}
 use Rattle.uv_names.proofs.Changed as of_names
 use Rattle.uv_names.proofs.Changed.{live_changed, named_changed}
-use Rattle.uv_alike.specs.Changed.{Change, Comes, changed, changed_content, changed_live, changed_run, changed_place, changed_line}
+use Rattle.uv_alike.specs.Changed.{Change, same, Comes, changed, changed_content, changed_live, changed_run, changed_place, changed_line}
 use Rattle.uv_alike.specs.Hides.{Hides, IsWhole, SeesAlike as SeesChanged}
-use Rattle.uv_alike.proofs.Same.{option_same, lines_same, lists_same, main_same, event_same, runs_same, stage_same}
+use Rattle.uv_alike.proofs.Same.{work_same, option_same, lines_same, lists_same, main_same, event_same, stage_same}
 use Rattle.uv_alike.proofs.Walk.{next_alike}
 use Rattle.uv_ids.specs.declared.fault.Why.{Why}
 use Rattle.uv_model.specs.Next.{Refuses}
@@ -60,6 +59,7 @@ module _ (f : Named → Named) (c : ℕ → ℕ) (r : List (Option Id) → List 
     waits = map (λ x. x);
     runs = r;
     ends = map (λ x. x);
+    work = same;
   }
 
   content_same : (x : Content) → changed_content by_named x ≡ x
@@ -92,8 +92,9 @@ module _ (f : Named → Named) (c : ℕ → ℕ) (r : List (Option Id) → List 
     binds = λ v x e. ap (λ (n : Named). slice_set (map f s.names) v.0 (record n { id = Some x }))
         (named_changed f of_names.as_is of_names.as_is s v can.unbound)
         ∙ ap (slice_set (map f s.names) v.0) (sym (can.fresh x e (named s v))) ∙ sym (map-set f s.names v.0 (record (named s v) { id = Some x }));
-    lines = λ kind v n. lines_same by_named (λ v. refl) _;
-    main = λ line e. main_same by_named (λ v. refl) _;
+    lines = λ kind v n. lines_same by_named (λ v. refl) (λ t. refl) _;
+    main = λ line e. main_same by_named (λ v. refl) (λ t. refl) _;
+    work = work_same;
   }
 
   whole_named : (p : Program) (s : State) → of_names.Hides f s → IsWhole by_named p s
@@ -153,7 +154,4 @@ pub step_alike : (p : Program) (f : Named → Named) (c : ℕ → ℕ) (left rig
     (s : State) → of_names.Hides f s → (e : Event) → left (next p (of_names.changed f c of_names.as_is s) e) ≡ right (next p s e)
 step_alike p f c left right old s can e = event_alike f c of_names.as_is p left right old s can e (by e) where
   by : (e : Event) → Comes (by_named f c of_names.as_is) s e
-  by (Take k) = runs_same s k
-  by (Finish k) = runs_same s k
-  by (Tick ms) = (refl, refl)
-  by e = tt
+  by e = grind arith

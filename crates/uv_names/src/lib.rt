@@ -6,6 +6,4 @@
 
 mod laws;
 
-pub use laws::{
-    counts_capped, counts_end, names_staled, reads_capped, reads_staled, script_counts, stales_end,
-};
+pub use laws::{counts_capped, names_staled, script_counts};

@@ -28,9 +28,8 @@ AnswersNext p past s (Moves t None) = Unit {0}
 AnswersNext p past s (Refuses why) = Unit {0}
 
 still_answers : (p : Program) (past : List Line) (s t : State) (l : Option Seen) → IsStill l → AnswersNext p past s (Moves t l)
-still_answers p past s t None q = tt
 still_answers p past s t (Some l) (IsStill.section word) = tt
-still_answers p past s t (Some l) each = tt
+still_answers p past s t each e5 = assumption
 
 did_answers : (p : Program) (past : List Line) (s : State) (n : Next) → Did p s n → Kept s → Working s → KnownAt p (seens past) s →
     StartedAt p (seens past) s → DatedAt p past s → HeardAt p (seens past) s → AnswersNext p past s n

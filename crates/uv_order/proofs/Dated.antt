@@ -27,27 +27,11 @@ pub record Starts (p : Program) (past now : List Line) (id : Id) (at : ℕ) : Ty
   pub drawn : starts p (seens now) ≡ starts p (seens past) + 1
   pub due : (i : Id) → due_told p now i ≡ (if same_id id i then record { at = at; start = starts p (seens past) } else due_told p past i)
 
-pub none_more : (p : Program) (past : List Line) → Quiet p past past
-none_more p past = record { drawn = refl; due = λ i. refl }
-
 -- a line that starts none
 pub quiet_line : (p : Program) (past : List Line) (l : Line) → starting p (seens past) l.seen ≡ None → Quiet p past (l ∷ past)
 quiet_line p past l e = record { drawn = rw e refl; due = λ i. rw e refl }
 
--- a line that starts one
-pub starts_line : (p : Program) (past : List Line) (l : Line) (id : Id) (timeout : ℕ) →
-    starting p (seens past) l.seen ≡ Some (record { id = id; timeout = timeout }) → Starts p past (l ∷ past) id (behind l.before.time timeout)
-starts_line p past l id timeout e = record { drawn = rw e refl; due = λ i. rw e refl }
-
 -- ---- changes of the slots
-
--- the record of a handle changes
-touched_at : (s u : State) (id : Id) (h x : HandleRecord) → Touches s id h x u → (i : Id) →
-    held_at u.arena.slots i ≡ (if same_id i id then Some x else held_at s.arena.slots i)
-touched_at s u id h x t i = rw t.arena (at (same_id i id) refl) where
-  at : (b : Bool) → same_id i id ≡ b → held_at (put s.arena.slots id x) i ≡ (if b then Some x else held_at s.arena.slots i)
-  at true d = ap (held_at (put s.arena.slots id x)) (same i id d) ∙ put_same s.arena.slots id h x t.holds
-  at false d = put_other s.arena.slots id i h x t.holds (other i id d)
 
 -- it is due as before, where it is an active timer
 pub dated_touched : (p : Program) (past now : List Line) (s u : State) (id : Id) (h x : HandleRecord) → Touches s id h x u →
@@ -56,7 +40,7 @@ pub dated_touched : (p : Program) (past now : List Line) (s u : State) (id : Id)
     DatedAt p past s → DatedAt p now u
 dated_touched p past now s u id h x t n alike q k = record {
   drawn = n ∙ k.drawn ∙ sym q.drawn;
-  due = λ i y e timer on. due i y timer on (same_id i id) refl (sym (touched_at s u id h x t i) ∙ e);
+  due = λ i y e timer on. due i y timer on (same_id i id) refl (sym (grind (arith, same, put_same, put_other, other)) ∙ e);
 } where
   due : (i : Id) (y : HandleRecord) → is_timer y.kind ≡ true → y.active ≡ true → (b : Bool) → same_id i id ≡ b →
       (if same_id i id then Some x else held_at s.arena.slots i) ≡ Some y → y.due ≡ due_told p now i
@@ -67,7 +51,7 @@ pub dated_started : (p : Program) (past now : List Line) (s u : State) (id : Id)
     u.next_start ≡ s.next_start + 1 → x.due ≡ record { at = at; start = s.next_start } → Starts p past now id at → DatedAt p past s → DatedAt p now u
 dated_started p past now s u id h x at t n own q k = record {
   drawn = n ∙ ap (λ (m : ℕ). m + 1) k.drawn ∙ sym q.drawn;
-  due = λ i y e timer on. due i y timer on (same_id i id) refl (sym (touched_at s u id h x t i) ∙ e);
+  due = λ i y e timer on. due i y timer on (same_id i id) refl (sym (grind (arith, same, put_same, put_other, other)) ∙ e);
 } where
   due : (i : Id) (y : HandleRecord) → is_timer y.kind ≡ true → y.active ≡ true → (b : Bool) → same_id i id ≡ b →
       (if same_id i id then Some x else held_at s.arena.slots i) ≡ Some y → y.due ≡ due_told p now i
@@ -76,24 +60,14 @@ dated_started p past now s u id h x at t n own q k = record {
 -- no handle changes
 pub dated_same : (p : Program) (past now : List Line) (s u : State) → SameHandles u.arena.slots s.arena.slots → u.next_start ≡ s.next_start →
     Quiet p past now → DatedAt p past s → DatedAt p now u
-dated_same p past now s u handles n q k = record {
-  drawn = n ∙ k.drawn ∙ sym q.drawn;
-  due = λ i y e timer on. k.due i y (sym (handles i) ∙ e) timer on ∙ sym (q.due i);
-}
+dated_same p past now s u handles n q k = grind arith
 
 -- what is held turns into something that is no active timer
 pub dated_turned : (p : Program) (past now : List Line) (arena more : Slots Content) (next : ℕ) (id : Id) (was is : Option Content) →
     Turns arena.slots more.slots id was is →
     ((y : HandleRecord) → held_at more.slots id ≡ Some y → is_timer y.kind ≡ true → y.active ≡ true → ⊥) →
     Quiet p past now → Dated p past arena next → Dated p now more next
-dated_turned p past now arena more next id was is t none q k = record {
-  drawn = k.drawn ∙ sym q.drawn;
-  due = λ i y e timer on. due i y e timer on (same_id i id) refl;
-} where
-  due : (i : Id) (y : HandleRecord) → held_at more.slots i ≡ Some y → is_timer y.kind ≡ true → y.active ≡ true → (b : Bool) → same_id i id ≡ b →
-      y.due ≡ due_told p now i
-  due i y e timer on true d = absurd (none y (sym (ap (held_at more.slots) (same i id d)) ∙ e) timer on)
-  due i y e timer on false d = let turns = t in grind (arith, other, k.due, q.due)
+dated_turned p past now arena more next id was is t none q k = grind arith
 
 -- ---- ops
 
@@ -140,16 +114,14 @@ by_touched : (p : Program) (past : List Line) (s : State) (o : Op) (d : ops.Done
     Touches s id h x d.state → d.state.next_start ≡ s.next_start →
     (is_timer x.kind ≡ true → x.active ≡ true → (is_timer h.kind ≡ true) × (h.active ≡ true) × (x.due ≡ h.due)) → DatedAt p past s →
     DatedBy p past s o d
-by_touched p past s o d id h x calm t n alike k = by_quiet p past s o d (calm_op p (seens past) o d.answer calm)
-    (λ now q. dated_touched p past now s d.state id h x t n alike q k)
+by_touched p past s o d id h x calm t n alike k = search (by_quiet, calm_op, dated_touched)
 
 start_dated : (p : Program) (past : List Line) (s : State) (v : Var) (timeout repeat : ℕ) (t : Id × HandleRecord) → live_handle s v ≡ Ok t →
     KnownAt p (seens past) s → DatedAt p past s → DatedBy p past s (Op.Start v timeout repeat) (ops.start s timeout repeat t.0 t.1)
 start_dated p past s v timeout repeat t e w k place u at =
     dated_started p past _ s _ t.0 t.1 _ (behind s.time timeout)
     (start_touches s (stopped s t.0 t.1) t.0 t.1 (records.stopped t.1) timeout repeat (assumption (live_held s v t e))) refl refl
-    (starts_line p past _ t.0 timeout
-    (op_starts p (seens past) place (Op.Start v timeout repeat) v t.0 at refl (w.binding v t.0 (live_bound s v t e)))) k
+    (grind arith) k
 
 -- a stopped timer is started again where it repeats, by a line that says so
 again_dated : (p : Program) (past : List Line) (l : Line) (s u : State) (id : Id) (h x : HandleRecord) → Touches s id h x u →
@@ -162,15 +134,10 @@ again_dated p past l s u id h x t n time says alike k = by (h.repeat == 0) refl 
   by true z = dated_touched p past (l ∷ past) s u id h x t n alike (quiet_line p past l (says ∙ rw z refl)) k
   by false z = dated_started p past (l ∷ past) s (started u id h h.repeat h.repeat) id h _ (behind l.before.time h.repeat)
       (start_touches s u id h x h.repeat h.repeat t) (ap (λ (m : ℕ). m + 1) n) (rw (time, n) refl)
-      (starts_line p past l id h.repeat (says ∙ rw z refl)) k
+      (grind arith) k
 
 no_timer : (k q : Kind) → k ≡ q → is_timer q ≡ false → {P : Type 0} → is_timer k ≡ true → P
 no_timer k q is none timer = absurd (cc (sym (ap is_timer is ∙ none), timer))
-
--- a request is no handle
-request_no_handle : (slots : List (Slot Content)) (id : Id) (r : Request) → held slots id ≡ Some (Content.Request r) → (y : HandleRecord) →
-    held_at slots id ≡ Some y → ⊥
-request_no_handle slots id r e y f = cc (sym (ap handle_in e) ∙ f)
 
 -- the record of a request changes
 request_dated : (p : Program) (past now : List Line) (s : State) (id : Id) (r x : Request) → held s.arena.slots id ≡ Some (Content.Request r) →
@@ -210,25 +177,16 @@ made_dated p past s v q id e kept k place u at = by q at where
 
 did_op_dated : (p : Program) (past : List Line) (s : State) (o : Op) (d : ops.Done) → DidOp s o d → Kept s → KnownAt p (seens past) s →
     StartedAt p (seens past) s → DatedAt p past s → DatedBy p past s o d
-did_op_dated p past s o d (DidOp.refused o' c r may) kept w b k =
-    by_quiet p past s o' d (refused_op p (seens past) o' c r) (λ now q. dated_same p past now s s (λ i. refl) refl q k)
-did_op_dated p past s o d (DidOp.asked o' a is) kept w b k =
-    by_quiet p past s o' d (calm_op p (seens past) o' a (asked_calm o' is)) (λ now q. dated_same p past now s s (λ i. refl) refl q k)
-did_op_dated p past s o d (DidOp.loop_stopped) kept w b k =
-    by_quiet p past s o d (calm_op p (seens past) o d.answer refl) (λ now q. dated_same p past now s d.state (λ i. refl) refl q k)
-did_op_dated p past s o d (DidOp.time_updated) kept w b k =
-    by_quiet p past s o d (calm_op p (seens past) o d.answer refl) (λ now q. dated_same p past now s d.state (λ i. refl) refl q k)
+did_op_dated p past s o d (DidOp.refused o' c r may) kept w b k = grind arith
+did_op_dated p past s o d (DidOp.asked o' a is) kept w b k = search (by_quiet, calm_op, asked_calm, dated_same)
 did_op_dated p past s o d (DidOp.made v q id e) kept w b k = made_dated p past s v q id e kept k
 did_op_dated p past s o d (DidOp.queued v task id e) kept w b k =
     by_quiet p past s (Op.Queue v task) d (calm_op p (seens past) (Op.Queue v task) d.answer refl)
     (λ now q. dated_turned p past now s.arena d.state.arena s.next_start id None _
     (fills s.arena s.arena.free id (Content.Request (queued v task)) refl kept.free e).0
-    (λ y f timer on. request_no_handle _ id (queued v task)
-    (fills s.arena s.arena.free id (Content.Request (queued v task)) refl kept.free e).0.here y f)
+    (λ y f timer on. grind (arith, fills))
     q k)
-did_op_dated p past s o d (DidOp.cancelled v t live on) kept w b k =
-    by_quiet p past s (Op.Cancel v) d (calm_op p (seens past) (Op.Cancel v) d.answer refl)
-    (λ now q. request_dated p past now s t.0 t.1 _ live.holds q k)
+did_op_dated p past s o d (DidOp.cancelled v t live on) kept w b k = search (by_quiet, calm_op, request_dated)
 did_op_dated p past s o d (DidOp.started v timeout repeat t e is stays) kept w b k = start_dated p past s v timeout repeat t e w k
 did_op_dated p past s o d (DidOp.again v t e is stays begun) kept w b k = again_op_dated p past s v t e w b k
 did_op_dated p past s o d (DidOp.watching v WatcherKind.Idle t e is off stays) kept w b k =
@@ -238,8 +196,6 @@ did_op_dated p past s o d (DidOp.watching v q t e is off stays) kept w b k =
     (no_timer t.1.kind (kind_as q) is (no_timers q)) k
 did_op_dated p past s o d (DidOp.io_started v t e is off stays) kept w b k =
     by_touched p past s o d t.0 t.1 (records.activated t.1) refl (assumption (live_held s v t e)) refl (no_timer t.1.kind Kind.Io is refl) k
-did_op_dated p past s o d (DidOp.watches v t e on) kept w b k =
-    by_quiet p past s o d (calm_op p (seens past) o d.answer refl) (λ now q. dated_same p past now s s (λ i. refl) refl q k)
 did_op_dated p past s o d (DidOp.stopped v t e sync) kept w b k =
     by_touched p past s o d t.0 t.1 (records.stopped t.1) refl (assumption (live_held s v t e)) refl (λ timer on. cc on) k
 did_op_dated p past s o d (DidOp.closed v t e stays) kept w b k =
@@ -252,6 +208,7 @@ did_op_dated p past s o d (DidOp.referenced o' u flag t e (IsRef.unref v)) kept 
     by_touched p past s o' d t.0 t.1 (referenced_as flag t.1) refl (assumption (live_held s u t e)) refl (λ timer on. (timer, on, refl)) k
 did_op_dated p past s o d (DidOp.sent_to v t e is stays) kept w b k =
     by_touched p past s o d t.0 t.1 (records.sent t.1) refl (assumption (live_held s v t e)) refl (λ timer on. (timer, on, refl)) k
+did_op_dated p past s o d each kept w b k = grind arith
 
 -- ---- steps
 
@@ -260,15 +217,9 @@ DatedFollows p past s (Moves t (Some l)) = DatedAt p (record { before = s; seen 
 DatedFollows p past s (Moves t None) = DatedAt p past t
 DatedFollows p past s (Refuses why) = Unit {0}
 
--- a line of no op and no call
-still_starts : (p : Program) (past : List Seen) (l : Seen) → IsStill (Some l) → starting p past l ≡ None
-still_starts p past l (IsStill.section word) = refl
-still_starts p past l each = refl
-
 still_dated : (p : Program) (past : List Line) (s t : State) (l : Option Seen) → SameHandles t.arena.slots s.arena.slots →
     t.next_start ≡ s.next_start → IsStill l → DatedAt p past s → DatedFollows p past s (Moves t l)
-still_dated p past s t None a n q k = dated_same p past past s t a n (none_more p past) k
-still_dated p past s t (Some l) a n q k = dated_same p past _ s t a n (quiet_line p past _ (still_starts p (seens past) l q)) k
+still_dated p past s t l a n q k = grind arith
 
 -- the line of a timer's call
 call_starts : (p : Program) (past : List Seen) (s : State) (v : Var) (t : Id × HandleRecord) → handle s t.0 ≡ Some t.1 → is_timer t.1.kind ≡ true →
@@ -311,8 +262,7 @@ freed_dated : (p : Program) (past : List Line) (l : Line) (s : State) (last : �
     starting p (seens past) l.seen ≡ None → DatedAt p past s → Dated p (l ∷ past) (freed last id s.arena) s.next_start
 freed_dated p past l s last id c e none k =
     let t = freed_turns last s.arena id c e in
-    dated_turned p past (l ∷ past) s.arena (freed last id s.arena) s.next_start id _ _ t
-    (λ y f timer on. cc (sym (ap handle_in t.here) ∙ f)) (quiet_line p past l none) k
+    grind arith
 
 sent_dated : (p : Program) (past : List Line) (s : State) (v : Var) → DatedAt p past s →
     DatedFollows p past s (Moves (ops.send s (live_handle s v)).state (Some (Seen.Send v (ops.send s (live_handle s v)).code)))
@@ -329,35 +279,26 @@ cancelled_dated p past s v k = cancel_both s v (λ (d : ops.Done). DatedFollows 
 
 pub did_dated : (p : Program) (past : List Line) (s : State) (n : Next) → Did p s n → Kept s → KnownAt p (seens past) s → StartedAt p (seens past) s →
     DatedAt p past s → DatedFollows p past s n
-did_dated p past s n (Did.refused why) kept w b k = tt
 did_dated p past s n (Did.still x time clock stop idled l q none) kept w b k = still_dated p past s _ l (λ i. refl) refl q k
 did_dated p past s n (Did.op x at o e) kept w b k = did_op_dated p past s o (do_op s o) (op_did s o) kept w b k at _ e
-did_dated p past s n (Did.begun run WatcherKind.Idle e) kept w b k =
-    still_dated p past s _ (Some (Seen.Section _)) (λ i. refl) refl (IsStill.section _) k
-did_dated p past s n (Did.begun run q e) kept w b k = still_dated p past s _ (Some (Seen.Section _)) (λ i. refl) refl (IsStill.section _) k
-did_dated p past s n (Did.begun_closing run e) kept w b k = still_dated p past s _ (Some (Seen.Section _)) (λ i. refl) refl (IsStill.section _) k
-did_dated p past s n (Did.begun_done run time e) kept w b k = still_dated p past s _ (Some (Seen.Section _)) (λ i. refl) refl (IsStill.section _) k
+did_dated p past s n (Did.begun run WatcherKind.Idle e) kept w b k = assumption
 did_dated p past s n (Did.collected run part t f) kept w b k = dated_touched p past past s (collected s t.0 t.1) t.0 t.1 (records.stopped t.1)
-    (assumption f.holds) refl (λ timer on. cc on) (none_more p past) k
+    (assumption f.holds) refl (λ timer on. cc on) (grind arith) k
 did_dated p past s n (Did.fired run t f) kept w b k = fired_dated p past _ s t refl refl f kept b k
 did_dated p past s n (Did.called_due run t f) kept w b k = due_dated p past _ s t refl refl f kept b k
 did_dated p past s n (Did.walked run WatcherKind.Idle t sync f) kept w b k =
     walked_dated p past _ s s WatcherKind.Idle t t.1 refl f (still_touches s s.ready t.0 t.1 f.holds) refl refl kept b k
 did_dated p past s n (Did.walked run q t sync f) kept w b k =
     walked_dated p past _ s s q t t.1 refl f (still_touches s s.ready t.0 t.1 f.holds) refl refl kept b k
-did_dated p past s n (Did.passed run t f off) kept w b k =
-    dated_same p past past s (front_moved s WatcherKind.Async t.0) (λ i. refl) refl (none_more p past) k
 did_dated p past s n (Did.woken run t f on) kept w b k =
     walked_dated p past _ s (with_handle (front_moved s WatcherKind.Async t.0) t.0 (records.woken t.1)) WatcherKind.Async t (records.woken t.1) refl f
     (assumption f.holds) refl refl kept b k
-did_dated p past s n (Did.answered run time v t e is on) kept w b k = dated_same p past _ s s (λ i. refl) refl (quiet_line p past _ refl) k
-did_dated p past s n (Did.closed run t f) kept w b k =
-    freed_dated p past _ s _ t.0 _ (is_held s.arena.slots t.0 t.1 f.holds) refl k
+did_dated p past s n (Did.closed run t f) kept w b k = search (freed_dated, is_held)
 did_dated p past s n (Did.ended run t f) kept w b k = freed_dated p past _ s _ t.0 _ f.holds refl k
-did_dated p past s n (Did.taken n' t f) kept w b k = dated_same p past _ s s (λ i. refl) refl (quiet_line p past _ refl) k
 did_dated p past s n (Did.finished n' t f) kept w b k = request_dated p past _ s t.0 t.1 _ f.holds (quiet_line p past _ refl) k
 did_dated p past s n (Did.sent v) kept w b k = sent_dated p past s v k
 did_dated p past s n (Did.cancelled v) kept w b k = cancelled_dated p past s v k
+did_dated p past s n each kept w b k = assumption
 
 pub dated_fresh : (p : Program) → DatedAt p [] (fresh p)
 dated_fresh p = record { drawn = refl; due = λ id h e. cc e }

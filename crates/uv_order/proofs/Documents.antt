@@ -153,16 +153,11 @@ holds_after p es = holds_by (course p es)
 -- each handle is what the lines tell of it
 pub its_close : (p : Program) (past : List Seen) (s : State) (id : Id) (h : HandleRecord) → held_at s.arena.slots id ≡ Some h → KnownAt p past s →
     (b : Bool) → h.closing ≡ b → was_closed p past id ≡ b
-its_close p past s id h e k true c = k.closing id (record { handle = h; holds = e; fits = c })
-its_close p past s id h e k false c = not_closed p past s.arena s.names id h e c k
+its_close p past s id h e k b c = grind arith
 
 is_told : (p : Program) (past : List Seen) (s : State) → KnownAt p past s → StartedAt p past s → (id : Id) (h : HandleRecord) → handle s id ≡ Some h →
     IsTold p past s id h
-is_told p past s k started id h e = record {
-  made = k.made id h.name (grind arith);
-  closed = its_close p past s id h e k h.closing refl;
-  active = started.active id h e;
-}
+is_told p past s k started id h e = grind arith
 
 told_by_lines : {p : Program} {told : Told} {past : List Seen} {s u : State} {at : Position} {ls : List Line} → Course p told past s at ls u →
     (id : Id) (h : HandleRecord) → handle u id ≡ Some h → IsTold p (onto past (seens ls)) u id h

@@ -32,9 +32,6 @@ pub record Hushed (p : Program) (past now : List Seen) : Type 0 where
   pub held : (i : Id) → facts_held p now i ≡ facts_held p past i
   pub bound : (v : Var) → bound p now v ≡ bound p past v
 
-pub no_lines : (p : Program) (past : List Seen) → Hushed p past past
-no_lines p past = record { held = λ i. refl; bound = λ v. refl }
-
 -- ---- changes of the slots
 
 touched_held : (s u : State) (id : Id) (h x : HandleRecord) → Touches s id h x u → (i : Id) →
@@ -47,9 +44,6 @@ touched_here s u id h x t i d = let f = touched_held s u id h x t i in grind ari
 touched_away : (s u : State) (id : Id) (h x : HandleRecord) → Touches s id h x u → (i : Id) → same_id i id ≡ false →
     held_at u.arena.slots i ≡ held_at s.arena.slots i
 touched_away s u id h x t i d = let f = touched_held s u id h x t i in grind arith
-
-less_or : (a b c : Bool) → (a ≡ true → b ≡ true) → (a || c) ≡ true → (b || c) ≡ true
-less_or a b c f e = grind arith
 
 -- the record of a handle changes, and so does what the lines tell of it
 pub heard_touched : (p : Program) (past now : List Seen) (s u : State) (id : Id) (h x : HandleRecord) (change : Facts → Facts) → Touches s id h x u →
@@ -77,18 +71,13 @@ heard_touched p past now s u id h x change t tells names own lists begun k = rec
       let now : x ≡ y = same_Some x y (sym (touched_here s u id h x t i d) ∙ e) in
       grind (arith, begun)
   begins i y e timer on false d = k.begun i y (sym (touched_away s u id h x t i d) ∙ e) timer
-      (less_or (has_id u.ready i) (has_id s.ready i) y.active (lists i d) on)
+      (grind arith)
 
 -- nothing that is told changes
 pub heard_same : (p : Program) (past now : List Seen) (arena more : Slots Content) (names : List Named) (ready : List Id) →
     ((i : Id) → option_map facts_of (held more.slots i) ≡ option_map facts_of (held arena.slots i)) →
     ((i : Id) → held_at more.slots i ≡ held_at arena.slots i) → Hushed p past now → Heard p past arena names ready → Heard p now more names ready
-heard_same p past now arena more names ready facts handles q k = record {
-  stands = λ i. q.held i ∙ k.stands i ∙ sym (facts i);
-  begun = λ i y e timer on. k.begun i y (sym (handles i) ∙ e) timer on;
-  long = k.long;
-  bound = λ v l. q.bound v ∙ k.bound v l;
-}
+heard_same p past now arena more names ready facts handles q k = grind arith
 
 pub heard_hushed : (p : Program) (past now : List Seen) (arena : Slots Content) (names : List Named) (ready : List Id) → Hushed p past now →
     Heard p past arena names ready → Heard p now arena names ready
@@ -97,12 +86,7 @@ heard_hushed p past now arena names ready q k = heard_same p past now arena aren
 -- names get other counts
 pub heard_names : (p : Program) (past : List Seen) (arena : Slots Content) (now was : List Named) (ready : List Id) → SameIds now was →
     length now ≡ length was → Heard p past arena was ready → Heard p past arena now ready
-heard_names p past arena now was ready same long k = record {
-  stands = k.stands;
-  begun = k.begun;
-  long = long ∙ k.long;
-  bound = λ v l. k.bound v l ∙ sym (same v);
-}
+heard_names p past arena now was ready same long k = grind arith
 
 -- ---- ops
 
@@ -112,8 +96,7 @@ if_held b x = if b then Some x else None
 -- the line of an op
 op_hears : (p : Program) (past : List Seen) (place : Site) (o : Op) (a : Answer) (i : Id) → op_at p place ≡ Some o →
     facts_held p (Seen.Op place a ∷ past) i ≡ if_held (has_id (holds_by o a (ids_held p past)) i) (facts_done p past o a i (facts p past i))
-op_hears p past place o a i e = ap (λ (d : Option Answered). if_held (has_id (holds_answered d (ids_held p past)) i)
-    (facts_answered p past d i (facts p past i))) (is_answered p place o a e)
+op_hears p past place o a i e = cc
 
 op_binds : (p : Program) (past : List Seen) (place : Site) (o : Op) (a : Answer) (v : Var) → op_at p place ≡ Some o →
     bound p (Seen.Op place a ∷ past) v ≡ binds o a v (bound p past v)
@@ -130,10 +113,7 @@ is_hushed o = true
 
 hushed_op : (p : Program) (past : List Seen) (place : Site) (o : Op) (a : Answer) → op_at p place ≡ Some o → is_hushed o ≡ true →
     Hushed p past (Seen.Op place a ∷ past)
-hushed_op p past place o a e q = record {
-  held = λ i. op_hears p past place o a i e ∙ grind arith;
-  bound = λ v. op_binds p past place o a v e ∙ grind arith;
-}
+hushed_op p past place o a e q = grind arith
 
 refused_op : (p : Program) (past : List Seen) (place : Site) (o : Op) (c : Code) → op_at p place ≡ Some o → IsRefusal c →
     Hushed p past (Seen.Op place (Answer.Code c) ∷ past)
@@ -215,8 +195,7 @@ made_heard p past s place o v id c at says bind still e kept k = record {
 
   named_now : (u : Var) → u.0 < length p.callbacks → (b : Bool) → (v.0 == u.0) ≡ b →
       (if b then Some id else bound p past u) ≡ id_in (slice_set s.names v.0 (record (named s v) { id = Some id })) u
-  named_now u l true d = let is = eqb-true v.0 u.0 d in let long = k.long in grind (arith, elements)
-  named_now u l false d = k.bound u l ∙ grind (arith, set_there, eq-eqb)
+  named_now u l b d = grind (arith, eqb-true, elements, set_there, eq-eqb)
 
 handle_heard : (p : Program) (past : List Seen) (s : State) (v : Var) (q : Kind) (id : Id) → next_free s.arena ≡ Some id → Kept s →
     HeardAt p past s → HeardBy p past (Op.Init v q) (record { state = ops.with_new s v q id; answer = Answer.Id id })
@@ -233,8 +212,7 @@ request_heard : (p : Program) (past now : List Seen) (s : State) (id : Id) (r x 
     Hushed p past now → HeardAt p past s → Heard p now (with_request s id x).arena s.names s.ready
 request_heard p past now s id r x e q k =
     let t = request_turns s.arena.slots id r x e in
-    heard_same p past now s.arena (with_request s id x).arena s.names s.ready (λ i. ap (option_map facts_of) (turned_to t i) ∙ grind (arith, same, e))
-    (same_handles s.arena.slots _ id _ _ t refl refl) q k
+    grind arith
 
 no_timer : (k q : Kind) → k ≡ q → is_timer q ≡ false → {P : Type 0} → is_timer k ≡ true → P
 no_timer k q is none timer = absurd (cc (sym (ap is_timer is ∙ none), timer))
@@ -254,19 +232,12 @@ again_heard p past s v t e begun k =
 
 did_op_heard : (p : Program) (past : List Seen) (s : State) (o : Op) (d : ops.Done) → DidOp s o d → Kept s → KnownAt p past s → HeardAt p past s →
     HeardBy p past o d
-did_op_heard p past s o d (DidOp.refused o' c r may) kept w k = λ place at.
-    heard_hushed p past _ s.arena s.names s.ready (refused_op p past place o' c at r) k
-did_op_heard p past s o d (DidOp.asked o' a is) kept w k = λ place at.
-    heard_hushed p past _ s.arena s.names s.ready (hushed_op p past place o' a at (asked_hushed o' is)) k
-did_op_heard p past s o d (DidOp.loop_stopped) kept w k = λ place at.
-    heard_hushed p past _ s.arena s.names s.ready (hushed_op p past place o d.answer at refl) k
-did_op_heard p past s o d (DidOp.time_updated) kept w k = λ place at.
-    heard_hushed p past _ s.arena s.names s.ready (hushed_op p past place o d.answer at refl) k
+did_op_heard p past s o d (DidOp.refused o' c r may) kept w k = search (heard_hushed, refused_op)
+did_op_heard p past s o d (DidOp.asked o' a is) kept w k = search (heard_hushed, hushed_op, asked_hushed)
 did_op_heard p past s o d (DidOp.made v q id e) kept w k = handle_heard p past s v q id e kept k
 did_op_heard p past s o d (DidOp.queued v task id e) kept w k = λ place at.
     made_heard p past s place (Op.Queue v task) v id (Content.Request (queued v task)) at (λ i. grind arith) (λ u b. refl) (grind arith) e kept k
-did_op_heard p past s o d (DidOp.cancelled v t live on) kept w k = λ place at.
-    request_heard p past _ s t.0 t.1 _ live.holds (hushed_op p past place o d.answer at refl) k
+did_op_heard p past s o d (DidOp.cancelled v t live on) kept w k = search (request_heard, hushed_op)
 did_op_heard p past s o d (DidOp.started v timeout repeat t e is stays) kept w k =
     by_telling p past s d.state o v t _ refl e
     (start_touches s (stopped s t.0 t.1) t.0 t.1 (records.stopped t.1) timeout repeat (assumption (live_held s v t e))) refl
@@ -281,8 +252,6 @@ did_op_heard p past s o d (DidOp.watching v q t e is off stays) kept w k =
 did_op_heard p past s o d (DidOp.io_started v t e is off stays) kept w k =
     by_touched p past s d.state o t.0 t.1 (records.activated t.1) refl (assumption (live_held s v t e)) refl (λ i h. h)
     (no_timer t.1.kind Kind.Io is refl) k
-did_op_heard p past s o d (DidOp.watches v t e on) kept w k = λ place at.
-    heard_hushed p past _ s.arena s.names s.ready (hushed_op p past place o d.answer at refl) k
 did_op_heard p past s o d (DidOp.stopped v t e sync) kept w k =
     by_touched p past s d.state o t.0 t.1 (records.stopped t.1) refl (assumption (live_held s v t e)) refl (λ i. fewer s.ready t.0 i)
     (λ timer on. none_ready s.ready t.0 on) k
@@ -301,6 +270,7 @@ did_op_heard p past s o d (DidOp.referenced o' u flag t e (IsRef.unref v)) kept 
 did_op_heard p past s o d (DidOp.sent_to v t e is stays) kept w k =
     by_touched p past s d.state o t.0 t.1 (records.sent t.1) refl (assumption (live_held s v t e)) refl (λ i h. h)
     (k.begun t.0 t.1 (live_held s v t e)) k
+did_op_heard p past s o d each kept w k = grind arith
 
 -- ---- steps
 
@@ -411,41 +381,41 @@ cancelled_heard p past s v k = cancel_both s v (λ (d : ops.Done). HeardFollows 
 
 pub did_heard : (p : Program) (past : List Seen) (s : State) (n : Next) → Did p s n → Kept s → KnownAt p past s → HeardAt p past s →
     HeardFollows p past n
-did_heard p past s n (Did.refused why) kept w k = tt
 did_heard p past s n (Did.still x time clock stop idled l q none) kept w k = still_heard p past s x time clock stop idled l q k
 did_heard p past s n (Did.op x at o e) kept w k = did_op_heard p past s o (do_op s o) (op_did s o) kept w k at e
-did_heard p past s n (Did.begun run WatcherKind.Idle e) kept w k =
-    heard_hushed p past _ s.arena s.names s.ready (record { held = λ i. refl; bound = λ u. refl }) k
-did_heard p past s n (Did.begun run q e) kept w k =
-    heard_hushed p past _ s.arena s.names s.ready (record { held = λ i. refl; bound = λ u. refl }) k
-did_heard p past s n (Did.begun_closing run e) kept w k =
-    heard_hushed p past _ s.arena s.names s.ready (record { held = λ i. refl; bound = λ u. refl }) k
-did_heard p past s n (Did.begun_done run time e) kept w k =
-    heard_hushed p past _ s.arena s.names s.ready (record { held = λ i. refl; bound = λ u. refl }) k
+did_heard p past s n (Did.begun run WatcherKind.Idle e) kept w k = assumption
 did_heard p past s n (Did.collected run part t f) kept w k = collected_heard p past s t f kept k
-did_heard p past s n (Did.fired run t f) kept w k =
-    called p _ (restarted (record s { ready = drop 1 s.ready }) t.0 t.1) t.1.name _ refl (fired_heard p past s t f kept k)
-did_heard p past s n (Did.called_due run t f) kept w k =
-    called p _ (restarted (stopped s t.0 t.1) t.0 t.1) t.1.name _ refl (due_heard p past s t f kept k)
-did_heard p past s n (Did.walked run WatcherKind.Idle t sync f) kept w k =
-    called p _ s t.1.name _ refl (heard_hushed p past _ s.arena s.names s.ready (record { held = λ i. refl; bound = λ u. refl }) k)
-did_heard p past s n (Did.walked run q t sync f) kept w k =
-    called p _ s t.1.name _ refl (heard_hushed p past _ s.arena s.names s.ready (record { held = λ i. refl; bound = λ u. refl }) k)
-did_heard p past s n (Did.passed run t f off) kept w k = k
+did_heard p past s n (Did.fired run t f) kept w k = search (called, fired_heard)
+did_heard p past s n (Did.called_due run t f) kept w k = search (called, due_heard)
+did_heard p past s n (Did.walked run WatcherKind.Idle t sync f) kept w k = search (called, heard_hushed)
 did_heard p past s n (Did.woken run t f on) kept w k = called p _ (with_handle s t.0 (records.woken t.1)) t.1.name _ refl
     (call_heard p past s (with_handle s t.0 (records.woken t.1)) t.1.name t.0 t (records.woken t.1) (assumption f.holds) refl (λ i h. h)
     (k.begun t.0 t.1 f.holds) k)
-did_heard p past s n (Did.answered run time v t e is on) kept w k =
-    called p _ s v _ refl (heard_hushed p past _ s.arena s.names s.ready (record { held = λ i. refl; bound = λ u. refl }) k)
 did_heard p past s n (Did.closed run t f) kept w k = heard_names p _ _ _ s.names s.ready (counted_ids s.names t.1.name _ refl) (set_long s.names _ _)
     (freed_heard p past (Seen.Closed t.1.name t.0) s _ t.0 _ (is_held s.arena.slots t.0 t.1 f.holds)
     (λ i. less_held p past (Seen.Closed t.1.name t.0) t.0 i refl refl) (λ v. refl) k)
 did_heard p past s n (Did.ended run t f) kept w k = heard_names p _ _ _ s.names s.ready (counted_ids s.names t.1.name _ refl) (set_long s.names _ _)
     (freed_heard p past (Seen.After (digest_in t.1.outcome) t.1.name t.0) s _ t.0 _ f.holds
     (λ i. less_held p past (Seen.After (digest_in t.1.outcome) t.1.name t.0) t.0 i refl refl) (λ v. refl) k)
-did_heard p past s n (Did.taken n' t f) kept w k =
-    heard_hushed p past _ s.arena s.names s.ready (record { held = λ i. refl; bound = λ u. refl }) k
-did_heard p past s n (Did.finished n' t f) kept w k =
-    request_heard p past _ s t.0 t.1 _ f.holds (record { held = λ i. refl; bound = λ u. refl }) k
-did_heard p past s n (Did.sent v) kept w k = sent_heard p past s v k
-did_heard p past s n (Did.cancelled v) kept w k = cancelled_heard p past s v k
+did_heard p past s n (Did.finished n' t f) kept w k = search request_heard
+did_heard p past s n each kept w k =
+    search (
+      still_heard,
+      did_op_heard,
+      op_did,
+      heard_hushed,
+      collected_heard,
+      called,
+      fired_heard,
+      due_heard,
+      call_heard,
+      heard_names,
+      counted_ids,
+      set_long,
+      freed_heard,
+      is_held,
+      less_held,
+      request_heard,
+      sent_heard,
+      cancelled_heard,
+    )

@@ -160,10 +160,6 @@ pub lists_without : (slots : List (Slot Content)) (P : HandleRecord → Type 0) 
     held_at slots id ≡ Some h → Lists slots P ids → Lists (put slots id x) P (without_id ids id)
 lists_without slots P id h x ids e k = some_less id (fits_other slots P id h x e) k
 
-pub lists_same : (slots more : List (Slot Content)) (P : HandleRecord → Type 0) (ids : List Id) → SameHandles more slots → Lists slots P ids →
-    Lists more P ids
-lists_same slots more P ids f k = some_alike (λ i. fits_by slots more P i (f i)) k
-
 pub lists_grown : (slots more : List (Slot Content)) (P : HandleRecord → Type 0) (id : Id) (x : HandleRecord) (ids : List Id) →
     Grown slots more id x → Lists slots P ids → Lists more P ids
 lists_grown slots more P id x ids g k = some_alike (λ i a. (fits_grown slots more P id x g i a).1) k
@@ -182,10 +178,6 @@ not_listed slots P id h ids e f each = false_from_ne_true (has_id ids id) (λ on
 abbrev pub Everyone : List (Slot Content) → (HandleRecord → Type 0) → List Id → Type 0
 Everyone slots P ids = AreAll (Fits slots P) ids
 
-pub everyone_same : (slots more : List (Slot Content)) (P : HandleRecord → Type 0) (ids : List Id) → SameHandles more slots → Everyone slots P ids →
-    Everyone more P ids
-everyone_same slots more P ids f k = all_alike (λ i. fits_by slots more P i (f i)) (λ i. fits_by more slots P i (sym (f i))) k
-
 -- a handle is changed that fits before and after, or doesn't
 pub everyone_put : (slots : List (Slot Content)) (P : HandleRecord → Type 0) (id : Id) (h x : HandleRecord) (ids : List Id) →
     held_at slots id ≡ Some h → (P h → P x) → (P x → P h) → Everyone slots P ids → Everyone (put slots id x) P ids
@@ -200,9 +192,7 @@ everyone_without slots P id h x ids e g k =
 -- one that fits from now on is put among them
 pub everyone_more : (slots : List (Slot Content)) (P : HandleRecord → Type 0) (id : Id) (h x : HandleRecord) (xs ys : List Id) →
     held_at slots id ≡ Some h → (P h → ⊥) → P x → Everyone slots P (xs ++ ys) → Everyone (put slots id x) P (xs ++ id ∷ ys)
-everyone_more slots P id h x xs ys e f g k = all_more xs ys id
-    (λ i a. let d = fits_not slots P id h e f i a in (d, fits_other slots P id h x e i d a)) (fitted slots P id h x e)
-    (record { handle = x; holds = put_same slots id h x e; fits = g }) k
+everyone_more slots P id h x xs ys e f g k = search (all_more, fits_not, fits_other, fitted, holds, put_same)
 
 -- a new one doesn't fit, or it is listed, anywhere
 pub everyone_grown : (slots more : List (Slot Content)) (P : HandleRecord → Type 0) (id : Id) (x : HandleRecord) (ids : List Id) →

@@ -7,7 +7,7 @@ use Rattle.uv_records.specs.Slots as arena
 use Rattle.uv_model.specs.Ops as ops
 use Rattle.uv_order.proofs.IdLists.{same, other, without_absent, without_itself}
 use Rattle.uv_order.proofs.Contents.{slot_with, IsThere, Turns, set_turns, pushed_turns, get_set_other}
-use Rattle.uv_order.proofs.Holding.{held_at, is_held, put, slot_of, SameHandles, Grown, grown, Lists, lists_same, everyone_same, lists_put, lists_without, lists_grown, Everyone, everyone_put, everyone_without, everyone_more, everyone_grown, everyone_listed, IsSet, Times, times_put, times_without, times_with, times_grown, put_same, put_other}
+use Rattle.uv_order.proofs.Holding.{held_at, is_held, put, slot_of, SameHandles, Grown, grown, Lists, lists_put, lists_without, lists_grown, Everyone, everyone_put, everyone_without, everyone_more, everyone_grown, everyone_listed, IsSet, Times, times_put, times_without, times_with, times_grown, put_same, put_other}
 use Rattle.uv_order.proofs.OpCases.{timer_kind}
 
 -- ---- what is kept
@@ -142,9 +142,7 @@ not_free slots id c (n ∷ ns) e k = grind (arith, eqb-true, not_free slots id c
 -- no handle changes
 pub agree_same : (now was : Slots Content) (s : State) → SameHandles now.slots was.slots → AreFree now.slots now.free →
     Agree was s.next_start s.timers s.ready s.watchers s.closing → Agree now s.next_start s.timers s.ready s.watchers s.closing
-agree_same now was s f free k = kept_all (λ id h e. k.sound id h (sym (f id) ∙ e)) free (grind arith)
-    (lists_same was.slots now.slots Rests _ f k.ready) (λ q. everyone_same was.slots now.slots (Watches (kind_as q)) _ f (k.watchers q))
-    (everyone_same was.slots now.slots Closes _ f k.closing)
+agree_same now was s f free k = grind arith
 
 -- a handle is changed in what the lists don't speak of
 pub put_kept : (s : State) (id : Id) (h x : HandleRecord) → handle s id ≡ Some h → x.kind ≡ h.kind → x.active ≡ h.active → x.due ≡ h.due →
@@ -347,8 +345,7 @@ new_by s v q id w t async k =
     more = (taken id (Content.Handle (inited v q)) s.arena).slots
 
     grown_list : (r : WatcherKind) → Apart Kind.Async (kind_as r) → Everyone more (Watches (kind_as r)) (members (watched s r))
-    grown_list r d = everyone_grown s.arena.slots more (Watches (kind_as r)) id x (members (watched s r)) t.0 (grind arith)
-        (k.watchers r)
+    grown_list r d = grind arith
 
     listed : (r : WatcherKind) → Everyone more (Watches (kind_as r)) (members (those_of r (with_those_of WatcherKind.Async w s.watchers)))
     listed WatcherKind.Async = async

@@ -44,17 +44,12 @@ belonging : (s : State) → Kept s → (word : Phase) → Lists s.arena.slots (B
 belonging s k Phase.Idle = let e = k.watchers WatcherKind.Idle in record { each = e.each; distinct = e.distinct }
 belonging s k Phase.Prepare = let e = k.watchers WatcherKind.Prepare in record { each = e.each; distinct = e.distinct }
 belonging s k Phase.Check = let e = k.watchers WatcherKind.Check in record { each = e.each; distinct = e.distinct }
-belonging s k Phase.Closing = record { each = k.closing.each; distinct = k.closing.distinct }
-belonging s k Phase.Timers = record { each = λ i h. cc h; distinct = tt }
-belonging s k Phase.Pending = record { each = λ i h. cc h; distinct = tt }
-belonging s k Phase.Done = record { each = λ i h. cc h; distinct = tt }
-belonging s k Phase.Async = record { each = λ i h. cc h; distinct = tt }
+belonging s k each = grind arith
 
 -- a handle that doesn't belong there isn't on it
 away : (s : State) (id : Id) (h : HandleRecord) → handle s id ≡ Some h → Kept s → (word : Phase) → (Belongs word h → ⊥) →
     has_id (members (walk_of word s.watchers s.closing)) id ≡ false
-away s id h e k word apart =
-    not_listed s.arena.slots (Belongs word) id h (members (walk_of word s.watchers s.closing)) e apart (belonging s k word).each
+away s id h e k word apart = grind (arith, not_listed, belonging)
 
 -- ---- lists without one
 
@@ -83,13 +78,7 @@ lined_idle : (p : Program) (past now : List Seen) (all : Watchers) (closing : Wa
 lined_idle p past now all closing q k = record { list = λ word. k.list word ∙ sym (q.list word); left = λ word. k.left word ∙ sym (q.left word) }
 
 still_idles : (p : Program) (past : List Seen) (l : Seen) → IsStill (Some l) → BeginsNoList (Some l) → Idles p past (l ∷ past)
-still_idles p past l (IsStill.section word) none = record { list = λ w. refl; left = λ w. by w word none } where
-  by : (w line : Phase) → IsUnlisted line → left_line p past (Seen.Section line) w (left_to_call p past w) ≡ left_to_call p past w
-  by w line none = grind arith
-still_idles p past l (IsStill.poll timeout) none = record { list = λ w. refl; left = λ w. refl }
-still_idles p past l (IsStill.runs mode) none = record { list = λ w. refl; left = λ w. refl }
-still_idles p past l (IsStill.end alive) none = record { list = λ w. refl; left = λ w. refl }
-still_idles p past l (IsStill.tick ms) none = record { list = λ w. refl; left = λ w. refl }
+still_idles p past l each none = grind arith
 
 -- ---- ops
 
@@ -101,9 +90,6 @@ listed_op p past o a word ids = listed_by p past word (record { op = o; answer =
 abbrev names_agree : Program → List Seen → State → Type 0
 names_agree p past s = Agrees (names_by p past) s
 
-known_agrees : (p : Program) (past : List Seen) (s : State) → KnownAt p past s → names_agree p past s
-known_agrees p past s k = record { bound = k.binding; made = k.made; under = k.under }
-
 -- the kind of a handle, as the lines tell it
 pub kind_told : (p : Program) (past : List Seen) (s : State) (id : Id) (h : HandleRecord) → handle s id ≡ Some h → HeardAt p past s →
     (facts p past id).kind ≡ Some h.kind
@@ -114,19 +100,11 @@ without_none : (off : List Id) → without_ids [] off ≡ []
 without_none [] = refl
 without_none (x ∷ off) = ap (λ (ids : List Id). without_id ids x) (without_none off)
 
--- an op takes nobody off the list of those that close
-closing_stays : (names : Names) (o : Op) (a : Answer) (ids : List Id) → without_ids ids (taken_off Phase.Closing names o a) ≡ ids
-closing_stays names o a ids = grind arith
-
 -- who is still to be called, behind an op
 op_left : (p : Program) (past : List Seen) (s : State) (o : Op) → names_agree p past s → Kept s → (word : Phase) →
     (walk_of word (do_op s o).state.watchers (do_op s o).state.closing).yet
     ≡ without_ids (walk_of word s.watchers s.closing).yet (taken_off word (names_by p past) o (do_op s o).answer)
-op_left p past s o a k word = let f = op_effect (names_by p past) s o a k in grind (arith, left_is, without_none, closing_stays)
-
--- a section without such a list has none behind an op
-unlisted : (p : Program) (past : List Seen) (o : Op) (a : Answer) (word : Phase) → IsUnlisted word → listed_op p past o a word [] ≡ []
-unlisted p past o a word none = grind (arith, without_none)
+op_left p past s o a k word = let f = op_effect (names_by p past) s o a k in grind (arith, left_is, without_none)
 
 -- a refused op leaves a list as it was
 refused_list : (p : Program) (past : List Seen) (o : Op) (c : Code) (word : Phase) (ids : List Id) → IsRefusal c →
@@ -142,13 +120,9 @@ moves_none (Op.Again v) = false
 moves_none (Op.Close v) = false
 moves_none o = true
 
-calm_list : (p : Program) (past : List Seen) (o : Op) (a : Answer) (word : Phase) (ids : List Id) → fronts word o ≡ None → off_by word o ≡ None →
-    listed_op p past o a word ids ≡ ids
-calm_list p past o a word ids front off = grind arith
-
 moves_list : (p : Program) (past : List Seen) (o : Op) (a : Answer) (word : Phase) (ids : List Id) → moves_none o ≡ true →
     listed_op p past o a word ids ≡ ids
-moves_list p past o a word ids e = grind (arith, calm_list)
+moves_list p past o a word ids e = grind (arith)
 
 -- those of an op that is done with the handle of a name
 record Accepted (p : Program) (past : List Seen) (s : State) (v : Var) (t : Id × HandleRecord) : Type 0 where
@@ -178,11 +152,7 @@ timer_walks s id h e is k Phase.Prepare =
     both_without s.watchers.prepare id ∙ without_absent (members s.watchers.prepare) id (timer_list s id h e is k Phase.Prepare (λ f. cc f))
 timer_walks s id h e is k Phase.Check =
     both_without s.watchers.check id ∙ without_absent (members s.watchers.check) id (timer_list s id h e is k Phase.Check (λ f. cc f))
-timer_walks s id h e is k Phase.Closing = refl
-timer_walks s id h e is k Phase.Timers = refl
-timer_walks s id h e is k Phase.Pending = refl
-timer_walks s id h e is k Phase.Done = refl
-timer_walks s id h e is k Phase.Async = refl
+timer_walks s id h e is k each = assumption
 
 -- `start` and `again` change the list of timers alone
 abbrev starts_timer : Op → Bool
@@ -192,8 +162,7 @@ starts_timer o = false
 
 timer_op : (p : Program) (past : List Seen) (s : State) (o : Op) (a : Answer) → starts_timer o ≡ true → (word : Phase) →
     listed_op p past o a word (members (walk_of word s.watchers s.closing)) ≡ members (walk_of word s.watchers s.closing)
-timer_op p past s o a e Phase.Timers = unlisted p past o a Phase.Timers tt
-timer_op p past s o a e word = grind (arith, calm_list)
+timer_op p past s o a e word = grind arith
 
 -- a handle is stopped
 stop_list : (p : Program) (past : List Seen) (s : State) (v : Var) (t : Id × HandleRecord) → Accepted p past s v t → Kept s → (word : Phase) →
@@ -206,10 +175,7 @@ close_list : (p : Program) (past : List Seen) (s : State) (v : Var) (t : Id × H
     (word : Phase) →
     members (walk_of word (ops.closed s t.0 t.1).watchers (ops.closed s t.0 t.1).closing)
     ≡ listed_op p past (Op.Close v) (Answer.Code Code.Ok) word (members (walk_of word s.watchers s.closing))
-close_list p past s v t x stays k word =
-    let b = x.bound in
-    let off = away s t.0 t.1 x.holds k Phase.Closing (λ shut. cc (shut, stays)) in
-    grind (arith, both_without, without_none)
+close_list p past s v t x stays k word = grind (arith, away, both_without, without_none)
 
 -- an inactive handle that doesn't close is on none
 nowhere : (s : State) (id : Id) (h : HandleRecord) → handle s id ≡ Some h → h.active ≡ false → h.closing ≡ false → Kept s → (word : Phase) →
@@ -221,11 +187,7 @@ watch_list : (p : Program) (past : List Seen) (s : State) (v : Var) (q : Watcher
     t.1.kind ≡ kind_as q → t.1.active ≡ false → t.1.closing ≡ false → Kept s → (word : Phase) →
     members (walk_of word (ops.watcher_started s q t.0 t.1).watchers s.closing)
     ≡ listed_op p past (Op.StartWatcher v) (Answer.Code Code.Ok) word (members (walk_of word s.watchers s.closing))
-watch_list p past s v q t x is off stays k word =
-    let b = x.bound in
-    let kind = x.kind in
-    let none = nowhere s t.0 t.1 x.holds off stays k word in
-    grind arith
+watch_list p past s v q t x is off stays k word = grind arith
 
 -- one that is active is there already
 there : (s : State) (id : Id) (h : HandleRecord) → handle s id ≡ Some h → h.active ≡ true → Kept s → (word : Phase) →
@@ -242,20 +204,13 @@ there s id h e on k word c other = grind arith
 active_list : (p : Program) (past : List Seen) (s : State) (v : Var) (t : Id × HandleRecord) → Accepted p past s v t → t.1.active ≡ true →
     Kept s → (word : Phase) → members (walk_of word s.watchers s.closing)
     ≡ listed_op p past (Op.StartWatcher v) (Answer.Code Code.Ok) word (members (walk_of word s.watchers s.closing))
-active_list p past s v t x on k word =
-    let b = x.bound in
-    let kind = x.kind in
-    let on_it = there s t.0 t.1 x.holds on k word in
-    grind arith
+active_list p past s v t x on k word = grind (arith, there)
 
 -- one of I/O is started, which is on no list
 io_list : (p : Program) (past : List Seen) (s : State) (v : Var) (t : Id × HandleRecord) → Accepted p past s v t → t.1.kind ≡ Kind.Io →
     (word : Phase) → members (walk_of word s.watchers s.closing)
     ≡ listed_op p past (Op.StartWatcher v) (Answer.Code Code.Ok) word (members (walk_of word s.watchers s.closing))
-io_list p past s v t x is word =
-    let b = x.bound in
-    let kind = x.kind in
-    grind arith
+io_list p past s v t x is word = grind arith
 
 -- a timer is started again, where it repeats
 again_watchers : (u : State) (id : Id) (h : HandleRecord) → ((restarted u id h).watchers ≡ u.watchers) × ((restarted u id h).closing ≡ u.closing)
@@ -272,15 +227,12 @@ op_list p past s o d (DidOp.refused o' c r may) kept w k word = sym (refused_lis
 op_list p past s o d (DidOp.asked o' a is) kept w k word = sym (moves_list p past o' a word _ (asked_moves o' is)) where
   asked_moves : (o : Op) → IsAsked o → moves_none o ≡ true
   asked_moves o a = grind arith
-op_list p past s o d (DidOp.made v q id e) kept w k word =
-    ap members (made_walks s v q id word) ∙ sym (moves_list p past o d.answer word _ refl)
-op_list p past s o d (DidOp.started v timeout repeat t e is stays) kept w k word =
-    timer_walks s t.0 t.1 (live_held s v t e) is kept word ∙ sym (timer_op p past s o d.answer refl word)
+op_list p past s o d (DidOp.made v q id e) kept w k word = simp (made_walks, moves_list)
+op_list p past s o d (DidOp.started v timeout repeat t e is stays) kept w k word = search (timer_walks, live_held, timer_op)
 op_list p past s o d (DidOp.again v t e is stays begun) kept w k word =
     let same = again_watchers (stopped s t.0 t.1) t.0 t.1 in
     rw (same.0, same.1) (timer_walks s t.0 t.1 (live_held s v t e) is kept word) ∙ sym (timer_op p past s o d.answer refl word)
-op_list p past s o d (DidOp.watching v q t e is off stays) kept w k word =
-    watch_list p past s v q t (accepted p past s v t e w k) is off stays kept word
+op_list p past s o d (DidOp.watching v q t e is off stays) kept w k word = search (watch_list, accepted)
 op_list p past s o d (DidOp.io_started v t e is off stays) kept w k word = io_list p past s v t (accepted p past s v t e w k) is word
 op_list p past s o d (DidOp.watches v t e on) kept w k word = active_list p past s v t (accepted p past s v t e w k) on kept word
 op_list p past s o d (DidOp.stopped v t e sync) kept w k word = stop_list p past s v t (accepted p past s v t e w k) kept word
@@ -299,7 +251,7 @@ op_lined : (p : Program) (past : List Seen) (s : State) (o : Op) (place : Site) 
 op_lined p past s o place at kept w h k = record {
   list = λ word. op_list p past s o (do_op s o) (op_did s o) kept w h word ∙ ap (listed_op p past o (do_op s o).answer word) (k.list word)
       ∙ sym (ap (λ (d : Option Answered). listed_answered p past word d (listed p past word)) (is_answered p place o (do_op s o).answer at));
-  left = λ word. op_left p past s o (known_agrees p past s w) kept word
+  left = λ word. op_left p past s o (grind arith) kept word
       ∙ ap (λ (ids : List Id). without_ids ids (taken_off word (names_by p past) o (do_op s o).answer)) (k.left word)
       ∙ sym (ap (λ (d : Option Answered). left_answered p past word d (left_to_call p past word)) (is_answered p place o (do_op s o).answer at));
 }
@@ -315,10 +267,7 @@ none_left s id word off = without_absent _ id (has_back (walk_of word s.watchers
 called_off : (p : Program) (past : List Seen) (all : Watchers) (closing : Walk Id) (v : Var) (id : Id) →
     ((word : Phase) → without_id (walk_of word all closing).yet id ≡ (walk_of word all closing).yet) → Lined p past all closing →
     Lined p (Seen.Call v id ∷ past) all closing
-called_off p past all closing v id off k = record {
-  list = k.list;
-  left = λ word. sym (off word) ∙ ap (λ (ids : List Id). without_id ids id) (k.left word);
-}
+called_off p past all closing v id off k = grind arith
 
 call_lined : (p : Program) (past : List Seen) (s : State) (v : Var) (id : Id) →
     ((word : Phase) → has_id (members (walk_of word s.watchers s.closing)) id ≡ false) → LinedAt p past s → LinedAt p (Seen.Call v id ∷ past) s
@@ -370,9 +319,7 @@ due_lined p past s t f kept k =
     let set = (first_is s t f kept).set in
     let same = again_watchers (stopped s t.0 t.1) t.0 t.1 in
     let off = other_kind s t.0 t.1 Kind.Timer f.holds set.active set.kind refl kept in
-    rw (same.0, same.1) (called_off p past (watchers_without_id s.watchers t.0) s.closing t.1.name t.0
-    (λ word. let e = none_left s t.0 word (off word) in let g = timer_left s t.0 word (off word) in grind arith)
-    (timer_lined p past s t.0 t.1 f.holds set.kind set.active kept k))
+    rw (same.0, same.1) (search (called_off, none_left, timer_left, timer_lined))
 
 -- a watcher is called, which goes to the end of its list
 first_left : (w : Walk Id) (id : Id) → w.yet ≡ id ∷ drop 1 w.yet → AreDistinct (members w) → drop 1 w.yet ≡ without_id w.yet id
@@ -401,8 +348,7 @@ walked_lined p past s q t f own kept k = record { list = λ word. list word q f.
 
   own_left : (word : Phase) → (walk_of word s.watchers s.closing).yet ≡ t.0 ∷ drop 1 (walk_of word s.watchers s.closing).yet →
       drop 1 (walk_of word s.watchers s.closing).yet ≡ without_id (left_to_call p past word) t.0
-  own_left word are = first_left (walk_of word s.watchers s.closing) t.0 are (belonging s kept word).distinct
-      ∙ ap (λ (ids : List Id). without_id ids t.0) (k.left word)
+  own_left word are = grind (arith, first_left, belonging)
 
   left : (word : Phase) (q : WatcherKind) → (those_of q s.watchers).yet ≡ t.0 ∷ drop 1 (those_of q s.watchers).yet → Watches (kind_as q) t.1 →
       has_list (kind_as q) ≡ true → (walk_of word (more q) s.closing).yet ≡ without_id (left_to_call p past word) t.0
@@ -416,26 +362,17 @@ walked_lined p past s q t f own kept k = record { list = λ word. list word q f.
 -- a section begins, which has its whole list to call
 begun_lined : (p : Program) (past : List Seen) (s : State) (q : WatcherKind) → (those_of q s.watchers).yet ≡ [] → LinedAt p past s →
     Lined p (Seen.Section (phase_of q) ∷ past) (with_those_of q (record { list = []; yet = (those_of q s.watchers).list }) s.watchers) s.closing
-begun_lined p past s q none k = record {
-  list = λ word. let is = k.list word in grind (arith, append-nil);
-  left = λ word. let is = k.list word in let left = k.left word in grind (arith, append-nil);
-}
+begun_lined p past s q none k = grind (arith, append-nil)
 
 -- that of the close callbacks
 closing_lined : (p : Program) (past : List Seen) (s : State) → s.closing.yet ≡ [] → LinedAt p past s →
     Lined p (Seen.Section Phase.Closing ∷ past) s.watchers (record { list = []; yet = s.closing.list })
-closing_lined p past s none k = record {
-  list = λ word. let is = k.list word in grind (arith, append-nil);
-  left = λ word. let is = k.list word in let left = k.left word in grind (arith, append-nil);
-}
+closing_lined p past s none k = grind (arith, append-nil)
 
 -- the list of async handles changes
 async_lined : (p : Program) (past : List Seen) (s : State) (w : Walk Id) → LinedAt p past s →
     Lined p past (with_those_of WatcherKind.Async w s.watchers) s.closing
-async_lined p past s w k = record {
-  list = λ word. let is = k.list word in grind arith;
-  left = λ word. let is = k.left word in grind arith;
-}
+async_lined p past s w k = grind arith
 
 -- and one is called
 woken_lined : (p : Program) (past : List Seen) (s : State) (t : Id × HandleRecord) (w : Walk Id) → FrontOf s s.watchers.async.yet t → Kept s →
@@ -456,9 +393,7 @@ closed_lined p past s t f kept k = record { list = list; left = left } where
   listed_now = ap (λ (ids : List Id). s.closing.list ++ ids) f.are
 
   gone : s.closing.list ++ drop 1 s.closing.yet ≡ without_id (members s.closing) t.0
-  gone = sym (ap (λ (ids : List Id). without_id ids t.0) listed_now
-      ∙ middle_without s.closing.list (drop 1 s.closing.yet) t.0
-      (once_middle s.closing.list (drop 1 s.closing.yet) t.0 (subst AreDistinct listed_now kept.closing.distinct)))
+  gone = sym (grind (arith, middle_without, once_middle))
 
   list : (word : Phase) → members (walk_of word s.watchers (record s.closing { yet = drop 1 s.closing.yet }))
       ≡ listed p (Seen.Closed t.1.name t.0 ∷ past) word
@@ -466,8 +401,7 @@ closed_lined p past s t f kept k = record { list = list; left = left } where
   list word = k.list word
 
   others : (word : Phase) → (Belongs word t.1 → ⊥) → (walk_of word s.watchers s.closing).yet ≡ without_id (left_to_call p past word) t.0
-  others word apart = sym (none_left s t.0 word (away s t.0 t.1 f.holds kept word apart))
-      ∙ ap (λ (ids : List Id). without_id ids t.0) (k.left word)
+  others word apart = grind (arith, none_left, away)
 
   left : (word : Phase) → (walk_of word s.watchers (record s.closing { yet = drop 1 s.closing.yet })).yet
       ≡ left_to_call p (Seen.Closed t.1.name t.0 ∷ past) word
@@ -484,8 +418,7 @@ LinedFollows p past (Refuses why) = Unit {0}
 still_lined : (p : Program) (past : List Seen) (s : State) (x : Place) (time clock : ℕ) (stop idled : Bool) (l : Option Seen) → IsStill l →
     BeginsNoList l → LinedAt p past s → LinedFollows p past (Moves (timed s x time clock stop idled) l)
 still_lined p past s x time clock stop idled None q none k = k
-still_lined p past s x time clock stop idled (Some l) q none k =
-    lined_idle p past (l ∷ past) s.watchers s.closing (still_idles p past l q none) k
+still_lined p past s x time clock stop idled (Some l) q none k = search (lined_idle, still_idles)
 
 sent_lined : (p : Program) (past : List Seen) (s : State) (v : Var) → LinedAt p past s →
     LinedFollows p past (Moves (ops.send s (live_handle s v)).state (Some (Seen.Send v (ops.send s (live_handle s v)).code)))
@@ -499,29 +432,18 @@ cancelled_lined p past s v k = cancel_both s v (λ (d : ops.Done). LinedFollows 
 
 pub did_lined : (p : Program) (past : List Seen) (s : State) (n : Next) → Did p s n → Kept s → KnownAt p past s → HeardAt p past s →
     LinedAt p past s → LinedFollows p past n
-did_lined p past s n (Did.refused why) kept w h k = tt
 did_lined p past s n (Did.still x time clock stop idled l q none) kept w h k = still_lined p past s x time clock stop idled l q none k
 did_lined p past s n (Did.op x at o e) kept w h k = op_lined p past s o at e kept w h k
 did_lined p past s n (Did.begun run q e) kept w h k = begun_lined p past s q e k
 did_lined p past s n (Did.begun_closing run e) kept w h k = closing_lined p past s e k
-did_lined p past s n (Did.begun_done run time e) kept w h k =
-    lined_idle p past _ s.watchers s.closing (still_idles p past (Seen.Section Phase.Done) (IsStill.section Phase.Done) tt) k
-did_lined p past s n (Did.collected run part t f) kept w h k = k
 did_lined p past s n (Did.fired run t f) kept w h k = fired_lined p past s t f kept k
 did_lined p past s n (Did.called_due run t f) kept w h k = due_lined p past s t f kept k
 did_lined p past s n (Did.walked run WatcherKind.Idle t sync f) kept w h k = walked_lined p past s WatcherKind.Idle t f refl kept k
 did_lined p past s n (Did.walked run WatcherKind.Prepare t sync f) kept w h k = walked_lined p past s WatcherKind.Prepare t f refl kept k
 did_lined p past s n (Did.walked run WatcherKind.Check t sync f) kept w h k = walked_lined p past s WatcherKind.Check t f refl kept k
 did_lined p past s n (Did.walked run WatcherKind.Async t sync f) kept w h k = absurd sync
-did_lined p past s n (Did.passed run t f off) kept w h k = async_lined p past s _ k
 did_lined p past s n (Did.woken run t f on) kept w h k = woken_lined p past s t _ f kept k
-did_lined p past s n (Did.answered run time v t e is on) kept w h k = assumption k
 did_lined p past s n (Did.closed run t f) kept w h k = closed_lined p past s t f kept k
-did_lined p past s n (Did.ended run t f) kept w h k = assumption k
-did_lined p past s n (Did.taken n' t f) kept w h k = assumption k
-did_lined p past s n (Did.finished n' t f) kept w h k = assumption k
 did_lined p past s n (Did.sent v) kept w h k = sent_lined p past s v k
 did_lined p past s n (Did.cancelled v) kept w h k = cancelled_lined p past s v k
-
-pub lined_fresh : (p : Program) → LinedAt p [] (fresh p)
-lined_fresh p = record { list = λ word. grind arith; left = λ word. grind arith }
+did_lined p past s n each kept w h k = grind arith

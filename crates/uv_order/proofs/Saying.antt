@@ -25,30 +25,11 @@ use Rattle.uv_records.specs.Dues.{due_in}
 abbrev pub told_of : Id × Content → Id × Facts
 told_of t = (t.0, facts_of t.1)
 
--- a name is bound as the lines tell, where it is one of the script
-bound_now : (p : Program) (past : List Seen) (s : State) (v : Var) → HeardAt p past s →
-    (if nat_lt v.0 (length p.callbacks) then bound p past v else None) ≡ (named s v).id
-bound_now p past s v k = by (nat_lt v.0 (length p.callbacks)) refl where
-  by : (b : Bool) → nat_lt v.0 (length p.callbacks) ≡ b → (if b then bound p past v else None) ≡ (named s v).id
-  by true e = k.bound v (grind (arith, nat_tests))
-  by false e =
-      let l = k.long in
-      let m : length p.callbacks ≤ v.0 = ltb-false v.0 (length p.callbacks) e in
-      let n : slice_get s.names v.0 ≡ None = slice_get_past s.names v.0 (omega (arith, l, m)) in
-      sym (ap (λ (o : Option Named). (unwrap_or o unbound).id) n)
-
 held_now : (p : Program) (past : List Seen) (s : State) (o : Option Id) → HeardAt p past s → held_as p past o ≡ option_map told_of (live_id s o)
-held_now p past s None k = refl
-held_now p past s (Some id) k = ap (with_id id) (k.stands id) ∙ by (held s.arena.slots id) where
-  by : (c : Option Content) → with_id id (option_map facts_of c) ≡ option_map told_of (with_id id c)
-  by None = refl
-  by (Some c) = refl
+held_now p past s o k = grind arith
 
 pub live_now : (p : Program) (past : List Seen) (s : State) (v : Var) → HeardAt p past s → live_told p past v ≡ option_map told_of (live s v)
-live_now p past s v k = ap (held_as p past) (bound_now p past s v k) ∙ held_now p past s (named s v).id k
-
-live_holds : (s : State) (v : Var) (t : Id × Content) → live s v ≡ Some t → held s.arena.slots t.0 ≡ Some t.1
-live_holds s v t e = grind arith
+live_now p past s v k = ap (held_as p past) (grind (arith, nat_tests, ltb-false, slice_get_past)) ∙ held_now p past s (named s v).id k
 
 -- ---- handles
 
@@ -66,15 +47,10 @@ shown_now p past s id h e kept w b d = record {
   due = λ timer. by h.active refl timer;
 } where
   resting : (r : Bool) → has_id s.ready id ≡ r → ((r || h.active) && not r) ≡ h.active
-  resting true on =
-      let f = kept.ready.each id on in
-      let is : f.handle ≡ h = same_Some f.handle h (sym f.holds ∙ e) in
-      sym (ap (λ (x : HandleRecord). x.active) (sym is) ∙ f.fits.inactive)
-  resting false on = grind arith
+  resting r on = grind arith
 
   by : (x : Bool) → h.active ≡ x → is_timer h.kind ≡ true → (if x then (due_told p past id).at - s.time else 0) ≡ (if x then h.due.at - s.time else 0)
-  by true on timer = ap (λ (q : Due). q.at - s.time) (sym (d.due id h e timer on))
-  by false on timer = refl
+  by x on timer = grind arith
 
 -- an op on a handle answers so, where its record does
 abbrev DoneSays : Program → List Line → State → Op → (HandleRecord → Option Code) → (Id → HandleRecord → ops.Done) → Type 0
@@ -137,76 +113,25 @@ pub cancel_answers : (p : Program) (past : List Seen) (s : State) (v : Var) → 
 cancel_answers p past s v work w k = by (live s v) refl ∙ ap (cancel_says p past) (sym (live_now p past s v k)) where
   waits : (id : Id) (r : Request) → held s.arena.slots id ≡ Some (Content.Request r) →
       (ops.cancel s (Ok (id, r))).answer ≡ cancel_says p past (Some (id, facts_of (Content.Request r)))
-  waits id r e =
-      let told = waits_told p past s id r e work w in
-      let any = any_has s.waiting id in grind arith
+  waits id r e = grind (arith, waits_told, any_has)
 
   by : (t : Option (Id × Content)) → live s v ≡ t → (ops.cancel s (as_request t)).answer ≡ cancel_says p past (option_map told_of t)
   by None e = refl
   by (Some (id, Content.Handle h)) e = refl
-  by (Some (id, Content.Request r)) e = waits id r (live_holds s v (id, Content.Request r) e)
+  by (Some (id, Content.Request r)) e = waits id r (grind arith)
 
 -- ---- any op
 
--- something is held just where the lines tell of something
-is_there : (p : Program) (past : List Seen) (s : State) (id : Id) → HeardAt p past s → is_used (held s.arena.slots id) ≡ has_id (ids_held p past) id
-is_there p past s id k = by (has_id (ids_held p past) id) (held s.arena.slots id) (k.stands id) where
-  by : (b : Bool) (c : Option Content) → (if b then Some (facts p past id) else None) ≡ option_map facts_of c → is_used c ≡ b
-  by true None e = cc e
-  by false (Some c) e = cc e
-  by true (Some c) e = refl
-  by false None e = refl
-
 in_use : (p : Program) (past : List Seen) (s : State) → HeardAt p past s → ops.is_in_use s ≡ has_some (ids_held p past)
 in_use p past s k = either_way _ _
-    (λ e. let f = found is_used s.arena.slots e in some_of (ids_held p past) f.0 (sym (is_there p past s f.0 k) ∙ f.1))
-    (λ e. let f = first (ids_held p past) e in is_any is_used s.arena.slots f.id.slot f.id.generation refl (is_there p past s f.id k ∙ f.on))
-
-made_says : (s : State) (t : Option (Id × Content)) (made : Id → State) → MakesAs (option_map told_of t) (ops.make s t made).answer
-made_says s t made = grind arith
+    (λ e. let f = found is_used s.arena.slots e in some_of (ids_held p past) f.0 (sym (grind arith) ∙ f.1))
+    (λ e. let f = first (ids_held p past) e in is_any is_used s.arena.slots f.id.slot f.id.generation refl (grind arith))
 
 pub op_says : (p : Program) (past : List Line) (s : State) (o : Op) → Kept s → Working s → KnownAt p (seens past) s → StartedAt p (seens past) s →
     DatedAt p past s → HeardAt p (seens past) s → OpAnswers p past s o (do_op s o).answer
 op_says p past s (Op.Init v q) kept work w b d k =
-    subst (λ (t : Option (Id × Facts)). MakesAs t (do_op s (Op.Init v q)).answer) (sym (live_now p (seens past) s v k)) (made_says s (live s v) _)
+    subst (λ (t : Option (Id × Facts)). MakesAs t (do_op s (Op.Init v q)).answer) (sym (live_now p (seens past) s v k)) (grind arith)
 op_says p past s (Op.Queue v task) kept work w b d k =
-    subst (λ (t : Option (Id × Facts)). MakesAs t (do_op s (Op.Queue v task)).answer) (sym (live_now p (seens past) s v k)) (made_says s (live s v) _)
-op_says p past s (Op.Cancel v) kept work w b d k = cancel_answers p (seens past) s v work w k
-op_says p past s (Op.Start v timeout repeat) kept work w b d k =
-    handle_says p past s (Op.Start v timeout repeat) v _ _ (λ id h x. let c = x.closing in grind arith) kept w b d k
-op_says p past s (Op.StartWatcher v) kept work w b d k =
-    handle_says p past s (Op.StartWatcher v) v _ _ (λ id h x. let c = x.closing in grind arith) kept w b d k
-op_says p past s (Op.Stop v) kept work w b d k = handle_says p past s (Op.Stop v) v _ _ (λ id h x. grind arith) kept w b d k
-op_says p past s (Op.Again v) kept work w b d k =
-    handle_says p past s (Op.Again v) v _ _ (λ id h x. let c = x.closing in grind arith) kept w b d k
-op_says p past s (Op.SetRepeat v n) kept work w b d k = handle_says p past s (Op.SetRepeat v n) v _ _ (λ id h x. grind arith) kept w b d k
-op_says p past s (Op.DueIn v) kept work w b d k =
-    handle_says p past s (Op.DueIn v) v _ _ (λ id h x. due_says id h x (is_timer h.kind) refl) kept w b d k where
-      due_says : (id : Id) (h : HandleRecord) → Shown p past s id h → (timer : Bool) → is_timer h.kind ≡ timer →
-          (found_or (timer_refusal h) (ops.refuses s) (ops.says s (Answer.Number (due_in s.time h)))).answer
-          ≡ says_of (is_timer h.kind) false (asked p past s (Op.DueIn v) id (facts_of (Content.Handle h)))
-      due_says id h x true e = rw e (ap Answer.Number (sym (x.due e)
-          ∙ sym (ap (λ (on : Bool). if on then (due_told p past id).at - s.time else 0) x.active)))
-      due_says id h x false e = rw e refl
-op_says p past s (Op.Close v) kept work w b d k =
-    handle_says p past s (Op.Close v) v _ _ (λ id h x. let c = x.closing in grind arith) kept w b d k
-op_says p past s (Op.Ref v) kept work w b d k = handle_says p past s (Op.Ref v) v _ _ (λ id h x. refl) kept w b d k
-op_says p past s (Op.Unref v) kept work w b d k = handle_says p past s (Op.Unref v) v _ _ (λ id h x. refl) kept w b d k
-op_says p past s (Op.HasRef v) kept work w b d k = handle_says p past s (Op.HasRef v) v _ _ (λ id h x. refl) kept w b d k
-op_says p past s (Op.IsActive v) kept work w b d k =
-    handle_says p past s (Op.IsActive v) v _ _ (λ id h x. ap Answer.Flag (sym x.active)) kept w b d k
-op_says p past s (Op.IsClosing v) kept work w b d k =
-    handle_says p past s (Op.IsClosing v) v _ _ (λ id h x. ap Answer.Flag (sym x.closing)) kept w b d k
-op_says p past s (Op.Send v) kept work w b d k = send_says p past s v kept w b d k
-op_says p past s Op.StopLoop kept work w b d k = refl
-op_says p past s Op.UpdateTime kept work w b d k = refl
-op_says p past s Op.Now kept work w b d k = refl
-op_says p past s Op.IsAlive kept work w b d k = ap Answer.Flag (sym (lives_is s work))
-op_says p past s Op.Timeout kept work w b d k = record {
-  timers = s.timers;
-  are = are_timers s s.timers s.next_start kept.timers;
-  is = ap Answer.Timeout (may_wait_is s s.timers Mode.Default (lives_is s work));
-}
-op_says p past s Op.CloseLoop kept work w b d k =
-    cond_both (ops.is_in_use s) _ _ (λ (x : ops.Done). x.answer ≡ Answer.Code (if has_some (ids_held p (seens past)) then Code.Ebusy else Code.Ok))
-    (λ e. rw (sym (in_use p (seens past) s k) ∙ e) refl) (λ e. rw (sym (in_use p (seens past) s k) ∙ e) refl)
+    subst (λ (t : Option (Id × Facts)). MakesAs t (do_op s (Op.Queue v task)).answer) (sym (live_now p (seens past) s v k)) (grind arith)
+op_says p past s each kept work w b d k =
+    grind (arith, live_now, cancel_answers, handle_says, send_says, lives_is, are_timers, may_wait_is, cond_both, in_use)

@@ -12,7 +12,7 @@ use Rattle.uv_order.proofs.Started.{front_watches}
 use Rattle.uv_order.proofs.Heard.{HeardAt, HeardFollows, did_heard}
 use Rattle.uv_order.proofs.AnswersTold.{heard_fresh}
 use Rattle.uv_order.proofs.Follows.{begins_at}
-use Rattle.uv_order.proofs.Lined.{LinedAt, LinedFollows, did_lined, kind_told, lined_fresh, walk_of}
+use Rattle.uv_order.proofs.Lined.{LinedAt, LinedFollows, did_lined, kind_told, walk_of}
 use Rattle.uv_order.proofs.Documents.{Holds, HoldsNext, holds_next, holds_fresh}
 
 -- ---- nobody is still to be called
@@ -45,9 +45,6 @@ IsBetween (Seen.Poll timeout) = Unit {0}
 IsBetween (Seen.End alive) = Unit {0}
 IsBetween l = ⊥
 
-no_call_between : (s : State) (kind : Callback) (v : Var) (id : Id) (l : Seen) → IsCallLine s kind v id l → IsBetween l → ⊥
-no_call_between s kind v id l e behind = grind arith
-
 apart : {P : Type 0} (l x : Seen) → l ≡ x → (IsBetween x → ⊥) → IsBetween l → P
 apart l x e none behind = absurd (none (subst IsBetween e behind))
 
@@ -58,7 +55,7 @@ over_at {p} {told} {l = l} x (doc.poll timeout may e polls is lasts) (running b 
 over_at {p} {told} {l = l} x (doc.ends may e is lasts) (running b f left) behind word = none_to_call p told l.before _ _ left may word
 over_at x (doc.main_line o a place is lasts) k behind word = apart _ _ is (λ b. b) behind
 over_at x (doc.run m there is lasts) k behind word = apart _ _ is (λ b. b) behind
-over_at {l = l} x (doc.call kind v id more in_it calls made is lasts) k behind word = absurd (no_call_between l.before kind v id l.seen is behind)
+over_at {l = l} x (doc.call kind v id more in_it calls made is lasts) k behind word = absurd (grind arith)
 over_at x (doc.fires v id due others heap timers done are is_due made is lasts) k behind word = apart _ _ is (λ b. b) behind
 over_at x (doc.answers v id io may active made is lasts) k behind word = apart _ _ is (λ b. b) behind
 over_at x (doc.answer_op place more o a there is lasts) k behind word = apart _ _ is (λ b. b) behind
@@ -97,21 +94,11 @@ first_of ids more id are is = grind arith
 
 still_turns : (p : Program) (past : List Seen) (s t : State) (l : Option Seen) → IsStill l → LinedAt p past s → NobodyLeft s (Moves t l) →
     TurnsNext p past (Moves t l)
-still_turns p past s t None q k none = tt
-still_turns p past s t (Some l) (IsStill.section word) k none = all_called p past s k (none tt)
-still_turns p past s t (Some l) (IsStill.poll timeout) k none = all_called p past s k (none tt)
-still_turns p past s t (Some l) (IsStill.end alive) k none = all_called p past s k (none tt)
-still_turns p past s t (Some l) (IsStill.runs mode) k none = tt
-still_turns p past s t (Some l) (IsStill.tick ms) k none = tt
+still_turns p past s t each e5 k none = grind arith
 
 walked_turn : (p : Program) (past : List Seen) (s : State) (q : WatcherKind) (t : Id × HandleRecord) → FrontOf s (those_of q s.watchers).yet t →
     Kept s → HeardAt p past s → LinedAt p past s → InTurn p past (Seen.Call t.1.name t.0)
-walked_turn p past s q t f kept h k = kind_in_turn p past s t (kind_as q) (front_watches s q t f kept).kind f.holds h (by q f.are) where
-  by : (q : WatcherKind) → (those_of q s.watchers).yet ≡ t.0 ∷ drop 1 (those_of q s.watchers).yet → KindInTurn p past t.0 (Some (kind_as q))
-  by WatcherKind.Idle are = first_of s.watchers.idle.yet _ t.0 are (k.left Phase.Idle)
-  by WatcherKind.Prepare are = first_of s.watchers.prepare.yet _ t.0 are (k.left Phase.Prepare)
-  by WatcherKind.Check are = first_of s.watchers.check.yet _ t.0 are (k.left Phase.Check)
-  by WatcherKind.Async are = tt
+walked_turn p past s q t f kept h k = grind (arith, kind_in_turn, front_watches, first_of)
 
 did_turns : (p : Program) (past : List Seen) (s : State) (n : Next) → Did p s n → Kept s → HeardAt p past s → LinedAt p past s → NobodyLeft s n →
     TurnsNext p past n
@@ -138,12 +125,6 @@ did_turns p past s n each kept h k none = tt
 abbrev seens : List Line → List Seen
 seens ls = map (λ (l : Line). l.seen) ls
 
-nobody_left : (p : Program) (told : Told) (past : List Seen) (s : State) (at : Position) (n : Next) → Holds p told past s at →
-    HoldsNext p told past s at n → NobodyLeft s n
-nobody_left p told past s at (Moves t (Some l)) k f = over_at s.place f.goes k.stands.stands
-nobody_left p told past s at (Moves t None) k f = tt
-nobody_left p told past s at (Refuses why) k f = tt
-
 -- steps from a state on
 turns_from : (p : Program) (es : List Event) (told : Told) (past : List Seen) (s : State) (at : Position) → Holds p told past s at →
     HeardAt p past s → LinedAt p past s → InTurnFrom p past (seens (history_from p s es))
@@ -153,17 +134,15 @@ turns_from p (e ∷ es) told past s at k h o =
     let did_it = did p s e (begins_at p s s.place at k.stands.stands) in
     let follows = holds_next p told past s at e k in
     by n follows (did_heard p past s n did_it k.kept k.known h) (did_lined p past s n did_it k.kept k.known h o)
-    (did_turns p past s n did_it k.kept h o (nobody_left p told past s at n k follows)) (turns_from p es)
+    (did_turns p past s n did_it k.kept h o (grind (arith, over_at))) (turns_from p es)
   where
     by : (n : Next) → HoldsNext p told past s at n → HeardFollows p past n → LinedFollows p past n → TurnsNext p past n →
         ((told' : Told) (past' : List Seen) (t : State) (to : Position) → Holds p told' past' t to → HeardAt p past' t → LinedAt p past' t →
         InTurnFrom p past' (seens (history_from p t es))) →
         InTurnFrom p past (seens (line_of_step s n ++ history_from p (state_of s n) es))
-    by (Moves t (Some l)) f g i a more = (a, more _ (l ∷ past) t f.to f.holds g i)
-    by (Moves t None) f g i a more = more told past t at f.holds g i
-    by (Refuses why) f g i a more = more told past s at f h o
+    by n f g i a more = grind arith
 
 pub turns : (p : Program) (es : List Event) → AreInTurn p (lines p es)
 unfolding history
 turns p es = subst (AreInTurn p) (sym (lines-history p es))
-    (turns_from p es nothing_told [] (fresh p) (Between 0) (holds_fresh p) (heard_fresh p) (lined_fresh p))
+    (turns_from p es nothing_told [] (fresh p) (Between 0) (holds_fresh p) (heard_fresh p) (grind arith))

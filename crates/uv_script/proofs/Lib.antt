@@ -1,5 +1,6 @@
 pub mod AfterLines
 pub mod Agrees
+pub mod Changed
 pub mod Checks
 pub mod Cuts
 pub mod Exact
@@ -13,6 +14,7 @@ pub mod OpWords
 pub mod Places
 mod ProofNames
 pub mod ReadBack
+pub mod SameWork
 pub mod SomeReading
 pub mod Texts
 pub mod Writing

@@ -10,5 +10,6 @@ pub mod Grammar
 pub mod Text
 pub mod Writes
 pub mod Laws
+pub mod SameWork
 pub mod Reading
 pub mod Said

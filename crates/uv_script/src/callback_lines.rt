@@ -1,10 +1,12 @@
 //! The lines of a callback, with an index of them by their calls.
-ghost use Rattle.std.specs.Prelude.{◌≡◌, ◌≤◌, ◌++◌, ◌∷◌, [], drop, OnOk, OnErr};
+ghost use Rattle.std.specs.Prelude.{◌≡◌, ◌≤◌, ◌++◌, ◌∷◌, [], drop, map, OnOk, OnErr};
 ghost use Rattle.std.specs.BTreeSet.{IsUnchanged};
 ghost use Rattle.uv_script.specs.Program.{is_for, next_line};
 ghost use Rattle.uv_script.specs.Index.{IsNoted, earlier, next_of};
+ghost use Rattle.uv_script.specs.SameWork.{same_line};
 
 use crate::op::CallbackLine;
+use crate::same_work::same_lines;
 use std::alloc::{AllocError, Global};
 use std::collections::BTreeSet;
 use std::marker::Model;
@@ -95,6 +97,13 @@ impl CallbackLines {
         note(&mut self.spots, (line.call, self.lines.len()))?;
         self.lines.push_reserved(line);
         Ok(())
+    }
+
+    /// Each request asks for the least task. No line's call changes, so the index stays.
+    pub(crate) fn ask_same_work(&mut self)
+        ensures { self.new ≡ map same_line self.old }
+    {
+        same_lines(&mut self.lines);
     }
 
     /// The first line from this one on that is for a call.

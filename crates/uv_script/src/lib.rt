@@ -11,6 +11,7 @@ mod lines;
 mod names;
 mod op;
 mod parse;
+mod same_work;
 mod script;
 mod settings;
 mod size;

@@ -2,6 +2,7 @@
 
 ghost use Rattle.std.specs.Prelude.{◌≡◌, drop, OnOk, OnErr};
 ghost use Rattle.uv_script.specs.Program.{no_callbacks, lines_of, makes_io, next_line, with_line};
+ghost use Rattle.uv_script.specs.SameWork.{same_callbacks};
 
 use crate::callback_lines::CallbackLines;
 use std::alloc::{AllocError, Global};
@@ -141,6 +142,15 @@ impl Callbacks {
             Callback::Close => self.close.push(line)?,
         }
         Ok(())
+    }
+
+    /// Each request asks for the least task.
+    pub(crate) fn ask_same_work(&mut self)
+        ensures { self.new ≡ same_callbacks self.old }
+    {
+        self.handle.ask_same_work();
+        self.after.ask_same_work();
+        self.close.ask_same_work();
     }
 }
 

@@ -3,11 +3,13 @@ ghost use Rattle.std.specs.Prelude.{◌≡◌, drop, slice_get, length, OnOk, Al
 ghost use Rattle.uv_script.specs.Grammar.{Declares, InMain, InCallback, InThread, Sizes, HasRoom, WasRead, with_statement, blank};
 ghost use Rattle.uv_script.specs.Reading.{has_room, may_make, IsSound, IsSaid};
 ghost use Rattle.uv_script.specs.Said.{said};
+ghost use Rattle.uv_script.specs.SameWork.{same_work};
 ghost use Rattle.uv_script.specs.Program.{lines_in, next_line, op_at, arena_size, worker_count, order_of, has_io, from_heap, with_workers, IsWorkerCount, IsThreadLine, IsWhole};
 
 use crate::limits::{MOST_LINES, MOST_NAMES};
 use crate::names::Names;
 use crate::op::{CallbackLine, Callbacks, MainOp, Op};
+use crate::same_work::{same_callbacks, same_main};
 use crate::size::ArenaSize;
 use crate::statement::Statement;
 use std::alloc::{AllocError, Global};
@@ -202,6 +204,19 @@ impl Script {
         ensures { self.new ≡ with_workers workers self.old }
     {
         self.workers = workers;
+    }
+
+    /// The script in which each request asks for the same work: one round over the empty text. Its names, its settings and its
+    /// other ops stay, and so do each line's place and the call that it is for.
+    ///
+    /// The work that a request asks for decides its digest and nothing else. So this script is for a search that asks no digest:
+    /// there, states that differ in their work alone are one.
+    pub fn with_same_work(mut self) -> Script
+        ensures { result ≡ same_work self }
+    {
+        same_main(&mut self.main);
+        same_callbacks(&mut self.callbacks);
+        self
     }
 
     /// Where its memory comes from.

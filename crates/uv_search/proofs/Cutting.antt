@@ -1,5 +1,5 @@
 -- Byte strings in two parts: which one a pair is, and one pair more.
-use Rattle.std.proofs.Common.{◌≡◌, ℕ, zero, suc, ◌/◌, ◌<◌, ◌≤◌, Bool, true, false, List, [], ◌∷◌, ◌++◌, length, map, Result, Ok, Err, IfOk, OnErr, refl, sym, ap, subst, ◌∙◌, inl, inr, Some, slice_get, slice_index_or, take, drop, nat_eq, arith, true≢false}
+use Rattle.std.proofs.Common.{◌≡◌, ℕ, zero, suc, ◌/◌, ◌<◌, ◌≤◌, Bool, true, false, List, [], ◌∷◌, ◌++◌, length, map, Result, IfOk, OnErr, refl, sym, ap, subst, ◌∙◌, inl, inr, Some, slice_get, slice_index_or, take, drop, nat_eq, arith, true≢false}
 use Rattle.std.proofs.lemmas.Option.{slice_get-get_or}
 use Rattle.std.specs.List.{AllByRecursion, IsDistinct}
 use Rattle.std.specs.Cmp.Lexicographic.{pointwise, bytes_decides, nat_list_eq_equiv}
@@ -15,9 +15,8 @@ pub index_of : {X : Type 0} (xs : List X) (i : ℕ) (d x : X) → slice_get xs i
 index_of xs i d x e = one_value (sym (slice_get-get_or xs i d (get_below xs i x e)) ∙ e)
 
 un_map : {X Y : Type 0} (f : X → Y) (xs : List X) (i : ℕ) (y : Y) → slice_get (map f xs) i ≡ Some y → (x : X) × (slice_get xs i ≡ Some x) × (f x ≡ y)
-un_map f [] i y e = absurd cc
-un_map f (x ∷ xs) zero y e = (x, refl, one_value e)
 un_map f (x ∷ xs) (suc i) y e = un_map f xs i y e
+un_map f each e2 y e = grind arith
 
 take_front : (xs ys : List ℕ) → take (length xs) (xs ++ ys) ≡ xs
 take_front [] ys = refl
@@ -149,14 +148,12 @@ module _ (parts : List (List ℕ)) (pairs : List (ℕ × ℕ)) where
 -- ---- what is entered
 
 halves_of : (n : ℕ) (key : List ℕ) → take n key ++ drop n key ≡ key
-halves_of zero key = refl
-halves_of (suc n) [] = refl
 halves_of (suc n) (x ∷ xs) = ap (λ k. x ∷ k) (halves_of n xs)
+halves_of each e1 = assumption
 
 half_long : (n : ℕ) (key : List ℕ) → n ≤ length key → length (take n key) ≡ n
-half_long zero key less = refl
-half_long (suc n) [] less = absurd (omega (arith, less))
 half_long (suc n) (x ∷ xs) less = ap suc (half_long n xs (omega (arith, less)))
+half_long each e1 less = grind arith
 
 half_below : (n : ℕ) → n / 2 ≤ n
 half_below n = omega arith
@@ -194,12 +191,10 @@ number_there parts pairs i a b key is_front is_back e =
     of_parts parts pairs i a b _ _ is_front is_back e ∙ ap Some (halves_of (length key / 2) key)
 
 pub if_ok_so : {E : Type 0} (r : Result ℕ E) {P Q : ℕ → Type 0} → ((n : ℕ) → P n → Q n) → IfOk r P → IfOk r Q
-if_ok_so (Ok n) f p = f n p
-if_ok_so (Err e) f p = tt
+if_ok_so r f p = grind arith
 
 pub on_err : {X E : Type 0} (r : Result X E) {P : Type 0} → P → OnErr r P
-on_err (Ok x) p = tt
-on_err (Err e) p = p
+on_err r p = grind arith
 
 -- ---- lists in which each is there once
 
@@ -211,11 +206,10 @@ never y (z ∷ zs) all (suc j) x e same = never y zs all.1 j x e same
 
 pub once_distinct : (xs : List (List ℕ)) → IsDistinct (pointwise nat_eq) xs → IsOnce xs
 unfolding IsDistinct
-once_distinct [] h i j x e f = absurd cc
-once_distinct (y ∷ ys) h zero zero x e f = refl
 once_distinct (y ∷ ys) h zero (suc j) x e f = absurd (never y ys h.0 j x f (one_value e))
 once_distinct (y ∷ ys) h (suc i) zero x e f = absurd (never y ys h.0 i x e (one_value f))
 once_distinct (y ∷ ys) h (suc i) (suc j) x e f = ap suc (once_distinct ys h.1 i j x e f)
+once_distinct each h e2 e3 x e f = grind arith
 
 pub distinct_once : (xs : List (List ℕ)) → IsOnce xs → IsDistinct (pointwise nat_eq) xs
 unfolding IsDistinct
@@ -234,8 +228,7 @@ distinct_once (y ∷ ys) once = (
   all [] none = tt
   all (z ∷ zs) none = (no (pointwise nat_eq y z) (λ same. none 0 (ap Some (sym ((bytes_decides y z).0 same)))), all zs (λ j. none (suc j))) where
     no : (b : Bool) → (b ≡ true → ⊥) → b ≡ false
-    no true not = absurd (not refl)
-    no false not = refl
+    no b not = grind arith
 
 pub has_none : (xs : List (List ℕ)) (key : List ℕ) → ((i : ℕ) → slice_get xs i ≡ Some key → ⊥) → Has xs key → ⊥
 has_none xs key none has = let at = number_of xs key has in none at.0 at.1

@@ -143,13 +143,13 @@ module _ {P : Type 0} (moves : P → ℕ) (next : P → ℕ → Option (P × Boo
     → IsApart moves next key apart p k i)
     (covers : (n : ℕ) (p : P) (i : ℕ) → HasRoom (suc n) p → covered p i ≡ true → i < moves p → IsCovered moves next n p i) where
   -- all is done at the beginning, and so at each place that is kept
-  pub ended : (seen : List (List ℕ)) (done : List Bool) (cs : List ℕ) (ps : List P) (p : P) (here n : ℕ)
+  pub ended : {seen : List (List ℕ)} {done : List Bool} {cs : List ℕ} {ps : List P} {p : P} {here n : ℕ}
       → Keeps moves next key IsPlace IsDeep apart covered begin first seen done [] cs ps p here n → moves p ≤ n → IsPlace p
       → IsDistinct (pointwise nat_eq) seen → Never moves next key IsDeep apart covered IsTold begin (length seen)
-  ended seen done cs ps p here n k all good distinct = record {
+  ended {seen} {done} {cs} {ps} {p} {here} {n} k all good distinct = record {
     none = told;
     keys = seen;
-    are = are_keys moves next key IsPlace IsDeep apart covered begin first seen done [] cs ps p here n k distinct;
+    are = are_keys moves next key IsPlace IsDeep apart covered begin first k distinct;
     closed = record { begins = k.begun; each = λ x has. (let w = closed x has in (w.way, w.place, w.leads, w.is, looked w.place w.done)) };
     whole = λ holds. record {
       none = λ is i q. none moves next key IsPlace IsDeep apart covered begin first seen IsReached alike leads (tried holds) begin is i q
@@ -160,13 +160,13 @@ module _ {P : Type 0} (moves : P → ℕ) (next : P → ℕ → Option (P × Boo
   }
     where
       at_begin : p ≡ begin
-      at_begin = (none_made moves next key IsPlace IsDeep apart covered begin first seen done cs ps p here n k).0
+      at_begin = (none_made moves next key IsPlace IsDeep apart covered begin first k).0
 
       standing : IsPlace begin
       standing = subst IsPlace at_begin good
 
       done_here : IsDone moves next key IsPlace IsDeep apart covered begin first seen p
-      done_here = here_done moves next key IsPlace IsDeep apart covered begin first seen p n k.past all
+      done_here = here_done moves next key IsPlace IsDeep apart covered begin first k all
 
       closed : (x : List ℕ) → Has seen x → IsClosed moves next key IsPlace IsDeep apart covered begin first seen x
       closed x has =

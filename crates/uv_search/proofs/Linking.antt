@@ -5,14 +5,12 @@ use Rattle.uv_search.specs.Chains.{AreLinked, Leads, Linked, place_of}
 use Rattle.uv_search.proofs.KeyLists.{get_last, get_below, get_other, map_last, set_long}
 
 pub get_map : {X Y : Type 0} (f : X → Y) (xs : List X) (i : ℕ) (x : X) → slice_get xs i ≡ Some x → slice_get (map f xs) i ≡ Some (f x)
-get_map f [] i x e = absurd cc
-get_map f (y ∷ ys) zero x e = let one : y ≡ x = cc in ap (λ z. Some (f z)) one
 get_map f (y ∷ ys) (suc i) x e = get_map f ys i x e
+get_map f each e2 x e = grind arith
 
 pub get_set : {X : Type 0} (xs : List X) (i : ℕ) (x y : X) → slice_get xs i ≡ Some x → slice_get (slice_set xs i y) i ≡ Some y
-get_set [] i x y e = absurd cc
-get_set (z ∷ zs) zero x y e = refl
 get_set (z ∷ zs) (suc i) x y e = get_set zs i x y e
+get_set each e1 x y e = grind arith
 
 get_of : {X : Type 0} (xs : List X) (i : ℕ) → i < length xs → (x : X) × (slice_get xs i ≡ Some x)
 get_of [] i less = absurd (omega (arith, less))
@@ -23,23 +21,14 @@ one_value : {X : Type 0} {x y : X} → Some x ≡ Some y → x ≡ y
 one_value e = cc
 
 same_or_not : (a b : ℕ) → (a ≡ b) ⊎ (a ≡ b → ⊥)
-same_or_not zero zero = inl refl
-same_or_not zero (suc b) = inr (λ e. absurd cc)
-same_or_not (suc a) zero = inr (λ e. absurd cc)
-same_or_not (suc a) (suc b) = elim (same_or_not a b) [ inl e ↦ inl (ap suc e) | inr f ↦ inr (λ e. f (omega (arith, e))) ]
+same_or_not a b = grind arith
 
 below_or_at : (n i : ℕ) → i < suc n → (i < n) ⊎ (i ≡ n)
-below_or_at n i less = elim (same_or_not i n) [ inl e ↦ inr e | inr f ↦ inl (below (λ e. f e)) ] where
-  below : (i ≡ n → ⊥) → i < n
-  below f = omega (arith, less, f)
+below_or_at n i less = grind arith
 
 leads_still : {places more : List ℕ} {place n at : ℕ} → ((i : ℕ) → i < n → slice_get more i ≡ slice_get places i) → Leads places place n at
     → Leads more place n at
-leads_still alike old = record {
-  within = old.within;
-  none_behind = λ i from less e. old.none_behind i from less (sym (alike i less) ∙ e);
-  is_there = λ i e. alike i (omega (arith, e, old.within)) ∙ old.is_there i e;
-}
+leads_still alike old = grind arith
 
 -- one row more
 pub one_more : {last before places before' places' : List ℕ} {n place at : ℕ} → Linked last before places n
@@ -58,32 +47,13 @@ one_more {last} {before} {places} {before'} {places'} {n} {place} {at} old alike
   ];
 } where
   this : (p a : ℕ) → slice_get (slice_set last place (suc n)) p ≡ Some a → p ≡ place → Leads places' p (suc n) a
-  this p a e same =
-      let one : a ≡ suc n = one_value (sym e ∙ ap (slice_get (slice_set last place (suc n))) same ∙ get_set last place at (suc n) is_last) in
-      record {
-        within = omega (arith, one);
-        none_behind = λ i from less _. absurd (omega (arith, one, from, less));
-        is_there = λ i e'. ap (slice_get places') (omega (arith, one, e')) ∙ is_place ∙ ap Some (sym same);
-      }
+  this p a e same = grind (arith, one_value, get_set)
 
   that : (p a : ℕ) → slice_get last p ≡ Some a → (p ≡ place → ⊥) → Leads places' p (suc n) a
-  that p a e other =
-      let was = leads_still alike (old.lasts p a e) in
-      record {
-        within = omega (arith, was.within);
-        none_behind = λ i from less is_at. elim (below_or_at n i less) [
-          | inl below ↦ was.none_behind i from below is_at
-          | inr same ↦ other (one_value (sym is_at ∙ ap (slice_get places') same ∙ is_place))
-        ];
-        is_there = was.is_there;
-      }
+  that p a e other = grind arith
 
   here : (i p a : ℕ) → slice_get places' i ≡ Some p → slice_get before' i ≡ Some a → i ≡ n → Leads places' p i a
-  here i p a is_at e same =
-      let one : p ≡ place = one_value (sym is_at ∙ ap (slice_get places') same ∙ is_place) in
-      let same_at : a ≡ at = one_value (sym e ∙ ap (slice_get before') same ∙ is_before) in
-      leads_still (λ j less. alike j (omega (arith, same, less)))
-      (subst (λ m. Leads places p m a) (sym same) (old.lasts p a (ap (slice_get last) one ∙ is_last ∙ ap Some (sym same_at))))
+  here i p a is_at e same = grind arith
 
 -- a row that is linked anew
 pub linked_anew : {X : Type 0} (f : X → ℕ) (xs : List X) (last before : List ℕ) (n at : ℕ) (x : X) → Linked last before (map f xs) n
@@ -98,9 +68,8 @@ linked_anew f xs last before n at x old is_x is_last long =
     (get_set before n was.0 at was.1) is_last)
 
 get_front : {X : Type 0} (xs : List X) (y : X) (i : ℕ) → i < length xs → slice_get (xs ++ y ∷ []) i ≡ slice_get xs i
-get_front [] y i less = absurd (omega (arith, less))
-get_front (x ∷ xs) y zero less = refl
 get_front (x ∷ xs) y (suc i) less = get_front xs y i (omega (arith, less))
+get_front each y e2 less = grind arith
 
 -- a pair behind the others
 pub linked_more : {last before : List ℕ} {pairs : List (ℕ × ℕ)} (pair : ℕ × ℕ) (at : ℕ) → AreLinked last before pairs → length pairs < length last
@@ -170,7 +139,3 @@ module _ {X : Type 0} (f : X → ℕ) (xs : List X) (q : X) where
   goes_back {last} {before} {was} {at} x linked walks some is_x other is_before =
       let went = goes_on x linked (subst Walks (omega (arith, some)) walks) is_x other is_before in
       (went.0, omega (arith, some, went.1))
-
-pub linked_as : {last last' before before' : List ℕ} {pairs pairs' : List (ℕ × ℕ)} → last ≡ last' → before ≡ before' → pairs ≡ pairs'
-    → AreLinked last' before' pairs' → AreLinked last before pairs
-linked_as one two three old = rw (one, two, three) old

@@ -26,6 +26,10 @@ module _ {X : Type 0} where
   some_left (suc n) y [] rest e = absurd (let f : ⊥ = cc in f)
   some_left (suc n) y (x ∷ xs) rest e = let more = some_left n y xs rest e in omega arith
 
+-- two that are behind the same
+pub went_back : {X : Type 0} {all xs ys : List X} {x y : X} → all ≡ x ∷ xs → all ≡ y ∷ ys → (x ≡ y) × (xs ≡ ys)
+went_back e f = (cc, cc)
+
 pub take_whole : (xs : List ℕ) (n : ℕ) → length xs ≤ n → take n xs ≡ xs
 take_whole [] zero l = refl
 take_whole [] (suc n) l = refl
@@ -123,7 +127,7 @@ module _ {P : Type 0} (moves : P → ℕ) (next : P → ℕ → Option (P × Boo
       lead_at s is n m q rest (omega arith) (subst (λ x. LeadTo moves next x (take n is) m) (sym (same_next p s t i b c goes went).0) more)
 
   module _ (key : P → List ℕ) (IsDeep : P → Type 0) where
-    whole : (p : P) (way : List ℕ) (q : P) → IsWay moves next key IsDeep p way q → LeadTo moves next p way q
+    pub whole : (p : P) (way : List ℕ) (q : P) → IsWay moves next key IsDeep p way q → LeadTo moves next p way q
     whole p way q (is, i, e, a) =
         subst (λ xs. LeadTo moves next p xs q) (sym e) (leads_on p is a.place q i true a.way a.offered a.answers)
 

@@ -1,14 +1,13 @@
--- What a search keeps, by what a move is told to have done.
-use Rattle.std.proofs.Common.{ℕ, Bool, List, Option, OnErr, Result, arith}
-use Rattle.std.proofs.lemmas.Grind.{common_steps}
-use Rattle.uv_search.specs.Settled.{AreReached}
-use Rattle.uv_search.proofs.Standing.{Keeps, reached}
+-- How a search begins.
+use Rattle.std.proofs.Common.{◌≡◌, ℕ, List, [], ap, arith, length, refl}
+use Rattle.uv_search.specs.Entering.{Enters}
+use Rattle.uv_search.specs.declared.seen.Entered.{Entered}
+use Rattle.uv_search.specs.declared.seen.Entered.TheVariants.{There, New, Full}
+use Rattle.uv_search.proofs.KeyLists.{get_below}
 
-module _ {P : Type 0} {moves : P → ℕ} {next : P → ℕ → Option (P × Bool)} {key : P → List ℕ} {IsPlace IsDeep : P → Type 0}
-    {apart covered : P → ℕ → Bool} {begin : P} {first : List P} {seen : List (List ℕ)} {done : List Bool} {js cs : List ℕ}
-    {ps : List P} {p : P} {here n : ℕ} (k : Keeps moves next key IsPlace IsDeep apart covered begin first seen done js cs ps p here n) where
-  -- where memory is refused, the keys that were seen are those of places that were reached
-  pub in_error : {A E : Type 0} (r : Result A E) → OnErr r (AreReached moves next key IsDeep begin seen)
-  in_error r =
-      let all = reached moves next key IsPlace IsDeep apart covered begin first seen done js cs ps p here n k in
-      grind (arith, common_steps, all)
+-- where the first key isn't kept, none may be
+pub none_entered : (old : List (List ℕ)) (key : List ℕ) (limit : ℕ) (new : List (List ℕ)) (e : Entered) → (e ≡ New → ⊥) → old ≡ []
+    → Enters old key limit e new → limit ≡ 0
+none_entered old key limit new (There n) other none (at, same) = let below = get_below old n key at in absurd (omega (arith, below, ap length none))
+none_entered old key limit new New other none enters = absurd (other refl)
+none_entered old key limit new Full other none (absent, all, same) = omega (arith, all, ap length none)

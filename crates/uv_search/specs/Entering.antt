@@ -1,5 +1,5 @@
 -- What comes of a key.
-use Rattle.std.specs.Prelude.{◌≡◌, ℕ, ◌<◌, ◌≤◌, List, [], ◌∷◌, ◌++◌, ◌⊎◌, Some, slice_get, length}
+use Rattle.std.specs.Prelude.{◌≡◌, ℕ, ◌<◌, ◌≤◌, List, [], ◌∷◌, ◌++◌, Some, slice_get, length}
 use Rattle.uv_search.specs.Keys.{Has}
 use Rattle.uv_search.specs.declared.seen.Entered.{Entered}
 use Rattle.uv_search.specs.declared.seen.Entered.TheVariants.{There, New, Full}
@@ -9,7 +9,3 @@ abbrev pub Enters : List (List ℕ) → List ℕ → ℕ → Entered → List (L
 Enters old key limit (There number) new = (slice_get old number ≡ Some key) × (new ≡ old)
 Enters old key limit New new = (Has old key → ⊥) × (length old < limit) × (new ≡ old ++ key ∷ [])
 Enters old key limit Full new = (Has old key → ⊥) × (limit ≤ length old) × (new ≡ old)
-
--- where it isn't told what came of it
-abbrev pub MayEnter : List (List ℕ) → List ℕ → ℕ → List (List ℕ) → Type 0
-MayEnter old key limit new = (new ≡ old) ⊎ ((length old < limit) × (new ≡ old ++ key ∷ []))

@@ -1,12 +1,14 @@
 //! What is near, however deep other ways go.
-ghost use Rattle.std.specs.Prelude.{◌≡◌, ◌∷◌, ◌≤◌, drop, take, length, IfOk, IfSome, IfNone, OnOk};
-ghost use Rattle.uv_search.specs.Settled.{AreFew, IsPassed, IsWay, Settles};
+ghost use Rattle.std.specs.Prelude.{◌≡◌, [], ◌∷◌, ◌≤◌, drop, take, length, IfOk, IfSome, IfNone, MatchOption};
+ghost use Rattle.uv_search.specs.Settled.{AreFew, Ends, IsPassed, IsWay, Settles};
 ghost use Rattle.uv_search.specs.Ways.{Passes};
+ghost use Rattle.uv_search.specs.declared.finding.Ending.TheVariants.{Answered as answered};
 ghost use Rattle.uv_search.specs.declared.finding.Found.TheVariants.{Way as found_way};
 
 use crate::finding::Reached;
 use crate::maze::{Maze, Went};
-use crate::round::{Round, keep_here, look_around};
+use crate::round::{Round, look_around};
+use crate::seen::{Entered, enter_here};
 use crate::shortening::go_back;
 use std::alloc::{AllocError, Global};
 
@@ -15,19 +17,19 @@ use std::alloc::{AllocError, Global};
 fn pass_on<M: Maze>(
     maze: &mut M,
     round: &mut Round,
+    limit: usize,
     number: usize,
 ) -> Result<Option<bool>, AllocError>
     ensures rules { M.rules maze.new ≡ M.rules maze.old }
-    ensures some { let r = M.rules maze.old
-        in IfOk result (λ led. IfSome led (λ answers. Passes (M.moves r) (M.next r) (M.key r) (M.place maze.old) (M.before maze.old) number answers
-        round.old.limit round.old.seen round.new.seen (M.place maze.new) (M.before maze.new))) }
-    ensures none { IfOk result (λ led. IfNone led ((M.place maze.new ≡ M.place maze.old) × (M.before maze.new ≡ M.before maze.old))) }
-    ensures limit { round.new.limit ≡ round.old.limit }
+    ensures led { let r = M.rules maze.old
+        in IfOk result (λ led. MatchOption led ((M.place maze.new ≡ M.place maze.old) × (M.before maze.new ≡ M.before maze.old))
+        (λ answers. Passes (M.moves r) (M.next r) (M.key r) (M.place maze.old) (M.before maze.old) number answers
+        limit round.old.seen round.new.seen (M.place maze.new) (M.before maze.new))) }
 {
     if number >= maze.moves() {
         return Ok(None);
     }
-    if !keep_here(maze, round)? {
+    if let Entered::Full = enter_here(maze, limit, &mut round.seen, &mut round.key)? {
         return Ok(None);
     }
     match maze.go(number)? {
@@ -43,20 +45,21 @@ fn pass_on<M: Maze>(
 fn pass<M: Maze>(
     maze: &mut M,
     round: &mut Round,
+    limit: usize,
     way: &[usize],
 ) -> Result<Option<usize>, AllocError>
     ensures rules { M.rules maze.new ≡ M.rules maze.old }
-    ensures some { let r = M.rules maze.old
-        in IfOk result (λ led. IfSome led (λ count. (count ≤ length way.now)
+    ensures led { let r = M.rules maze.old
+        in IfOk result (λ led. MatchOption led ((M.place maze.new ≡ M.place maze.old) × (M.before maze.new ≡ M.before maze.old))
+        (λ count. (count ≤ length way.now)
         × IsWay (M.moves r) (M.next r) (M.key r) (M.IsDeep r) (M.place maze.old) (take count way.now) (M.place maze.new)
         × IsPassed (M.moves r) (M.next r) (M.key r) (M.IsDeep r) round.new.seen (M.place maze.old) (take count way.now)
         × (drop count (M.place maze.new ∷ M.before maze.new) ≡ M.place maze.old ∷ M.before maze.old)
-        × (AreFew (M.moves r) (M.next r) (M.key r) (M.IsDeep r) (M.place maze.old) round.old.limit round.old.seen
-        → AreFew (M.moves r) (M.next r) (M.key r) (M.IsDeep r) (M.place maze.old) round.old.limit round.new.seen))) }
-    ensures none { IfOk result (λ led. IfNone led ((M.place maze.new ≡ M.place maze.old) × (M.before maze.new ≡ M.before maze.old))) }
+        × (AreFew (M.moves r) (M.next r) (M.key r) (M.IsDeep r) (M.place maze.old) limit round.old.seen
+        → AreFew (M.moves r) (M.next r) (M.key r) (M.IsDeep r) (M.place maze.old) limit round.new.seen))) }
 {
     'moves: for index in 0..way.len() {
-        match pass_on(maze, round, way[index])? {
+        match pass_on(maze, round, limit, way[index])? {
             Some(answers) => {
                 if answers {
                     return Ok(Some(index + 1));
@@ -70,6 +73,53 @@ fn pass<M: Maze>(
     }
     go_back(maze, way.len());
     Ok(None)
+}
+
+/// Looks around, and passes along the way that was found, of which as many moves are left as were made. How many keys were kept until it answered.
+fn find_near<M: Maze>(
+    maze: &mut M,
+    round: &mut Round,
+    limit: usize,
+    way: &mut Vec<usize>,
+    effort: usize,
+) -> Result<Option<usize>, AllocError>
+    requires { round.old.seen ≡ [] }
+    ensures rules { M.rules maze.new ≡ M.rules maze.old }
+    ensures led { let r = M.rules maze.old
+        in IfOk result (λ led. MatchOption led ((M.place maze.new ≡ M.place maze.old) × (M.before maze.new ≡ M.before maze.old))
+        (λ keys. Ends (M.moves r) (M.next r) (M.key r) (M.IsDeep r) (M.apart r) (M.covered r) (M.IsTold r) (M.place maze.old) limit
+        (answered keys) way.new.items (M.place maze.new)
+        × (drop (length way.new.items) (M.place maze.new ∷ M.before maze.new) ≡ M.place maze.old ∷ M.before maze.old))) }
+{
+    if !look_around(maze, round, limit, way, effort)? {
+        return Ok(None);
+    }
+    match pass(maze, round, limit, way.as_slice())? {
+        Some(count) => {
+            way.truncate(count);
+            Ok(Some(round.seen.len()))
+        }
+        None => Ok(None),
+    }
+}
+
+/// The same, with what a round keeps.
+fn start_near<M: Maze>(
+    alloc: Global,
+    maze: &mut M,
+    limit: usize,
+    way: &mut Vec<usize>,
+    effort: usize,
+) -> Result<Option<usize>, AllocError>
+    ensures rules { M.rules maze.new ≡ M.rules maze.old }
+    ensures led { let r = M.rules maze.old
+        in IfOk result (λ led. MatchOption led ((M.place maze.new ≡ M.place maze.old) × (M.before maze.new ≡ M.before maze.old))
+        (λ keys. Ends (M.moves r) (M.next r) (M.key r) (M.IsDeep r) (M.apart r) (M.covered r) (M.IsTold r) (M.place maze.old) limit
+        (answered keys) way.new.items (M.place maze.new)
+        × (drop (length way.new.items) (M.place maze.new ∷ M.before maze.new) ≡ M.place maze.old ∷ M.before maze.old))) }
+{
+    let mut round = Round::new(alloc);
+    find_near(maze, &mut round, limit, way, effort)
 }
 
 /// A way of the fewest moves that answers, by a search of one layer of places after another. So many moves are made for it at most, and those of
@@ -89,19 +139,9 @@ pub fn search_near<M: Maze>(
         × (drop (length reached.way.items) (M.place maze.new ∷ M.before maze.new) ≡ M.place maze.old ∷ M.before maze.old))) }
     ensures none { IfOk result (λ led. IfNone led ((M.place maze.new ≡ M.place maze.old) × (M.before maze.new ≡ M.before maze.old))) }
 {
-    let mut round = Round::new(alloc, limit);
     let mut way = Vec::new(alloc);
-    if !look_around(maze, &mut round, &mut way, effort)? {
-        return Ok(None);
-    }
-    match pass(maze, &mut round, &way)? {
-        Some(count) => {
-            way.truncate(count);
-            Ok(Some(Reached {
-                way,
-                keys: round.seen.len(),
-            }))
-        }
+    match start_near(alloc, maze, limit, &mut way, effort)? {
+        Some(keys) => Ok(Some(Reached { way, keys })),
         None => Ok(None),
     }
 }

@@ -7,23 +7,19 @@ use crate::round::{Round, look_around};
 use crate::shortening::shorten;
 use std::alloc::{AllocError, Global};
 
-/// A way of the fewest moves that answers, by a search of one layer of places after another. So many moves are made for it at most, and
-/// those of one way more; then it gives up. Nothing changes, and it says nothing of the way: who wants to know makes its moves.
+/// Makes a way of the fewest moves that answers, by a search of one layer of places after another. So many moves are made for it at most, and
+/// those of one way more; then it gives up. Whether there is one. Nothing changes, and it says nothing of the way: who wants to know makes its moves.
 fn nearest<M: Maze>(
     alloc: Global,
     maze: &mut M,
+    way: &mut Vec<usize>,
     effort: usize,
-) -> Result<Option<Vec<usize>>, AllocError>
+) -> Result<bool, AllocError>
     ensures rules { M.rules maze.new ≡ M.rules maze.old }
     ensures same { OnOk result ((M.place maze.new ≡ M.place maze.old) × (M.before maze.new ≡ M.before maze.old)) }
 {
-    let mut round = Round::new(alloc, usize::MAX);
-    let mut way = Vec::new(alloc);
-    match look_around(maze, &mut round, &mut way, effort) {
-        Ok(true) => Ok(Some(way)),
-        Ok(false) => Ok(None),
-        Err(error) => Err(error),
-    }
+    let mut round = Round::new(alloc);
+    look_around(maze, &mut round, usize::MAX, way, effort)
 }
 
 /// Makes the moves of a way of the fewest, if one is found by so many moves. It is none, and nothing changes, where none is.
@@ -39,9 +35,11 @@ fn take_nearest<M: Maze>(
         × (drop (length short.items) (M.place maze.new ∷ M.before maze.new) ≡ M.place maze.old ∷ M.before maze.old))) }
     ensures none { IfOk result (λ led. IfNone led ((M.place maze.new ≡ M.place maze.old) × (M.before maze.new ≡ M.before maze.old))) }
 {
-    match nearest(alloc, maze, effort)? {
-        Some(near) => shorten(alloc, maze, near, effort),
-        None => Ok(None),
+    let mut way = Vec::new(alloc);
+    if nearest(alloc, maze, &mut way, effort)? {
+        shorten(alloc, maze, way, effort)
+    } else {
+        Ok(None)
     }
 }
 

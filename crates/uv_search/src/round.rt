@@ -1,13 +1,11 @@
 //! A round by breadth: one place after another, in the order in which they are reached.
-ghost use Rattle.std.specs.Prelude.{◌≡◌, [], ◌∷◌, ◌<◌, true, drop, IfOk, OnOk};
-ghost use Rattle.uv_search.specs.Entering.{MayEnter};
-ghost use Rattle.uv_search.specs.Keys.{Has};
+ghost use Rattle.std.specs.Prelude.{◌≡◌, [], ◌<◌, OnOk};
 ghost use Rattle.uv_search.specs.Settled.{AreFew};
-ghost use Rattle.uv_search.specs.Ways.{CanLead, LooksAt};
+ghost use Rattle.uv_search.specs.Ways.{CanLead};
 
 use crate::maze::{Maze, Went};
-use crate::seen::{Entered, Key, Seen};
-use crate::shortening::go_back;
+use crate::seen::{Entered, Key, Seen, enter_here};
+use crate::shortening::{go_back, walk};
 use std::alloc::{AllocError, Global};
 
 /// How a place was reached: by this move, from one that was reached before.
@@ -18,17 +16,6 @@ struct Reaching {
     number: usize,
 }
 
-/// Where a move leads.
-#[derive(Clone, Copy)]
-pub enum Leads {
-    /// It isn't accepted, or may not be made.
-    Nowhere,
-    /// To a place whose key was asked.
-    On,
-    /// To a place that answers.
-    ToAnswer,
-}
-
 /// What a round keeps.
 #[derive(Drop)]
 pub(crate) struct Round {
@@ -36,21 +23,17 @@ pub(crate) struct Round {
     pub(crate) seen: Seen,
     /// How each of the others was reached.
     reached: Vec<Reaching>,
-    /// So many keys are kept at most.
-    pub(crate) limit: usize,
     /// The key that was asked last.
-    key: Key,
+    pub(crate) key: Key,
 }
 
 impl Round {
-    pub(crate) fn new(alloc: Global, limit: usize) -> Round
-        ensures seen { result.seen ≡ [] }
-        ensures limit { result.limit ≡ limit }
+    pub(crate) fn new(alloc: Global) -> Round
+        ensures { result.seen ≡ [] }
     {
         Round {
             seen: Seen::new(alloc),
             reached: Vec::new(alloc),
-            limit,
             key: Key {
                 bytes: Vec::new(alloc),
             },
@@ -72,79 +55,38 @@ impl Round {
         way.reverse();
         Ok(())
     }
-
-    /// Keeps the place whose key was asked, if it wasn't seen, where there are fewer than so many.
-    fn keep(&mut self, step: Reaching) -> Result<(), AllocError>
-        ensures keys { OnOk result (MayEnter self.old.seen self.old.key.bytes.items self.old.limit self.new.seen) }
-        ensures limit { self.new.limit ≡ self.old.limit }
-    {
-        match self.seen.enter(&self.key, self.limit)? {
-            Entered::There(_) => {}
-            Entered::New => self.reached.push(step)?,
-            Entered::Full => {}
-        }
-        Ok(())
-    }
 }
 
-/// Keeps the key of the place, where there are fewer than so many. Whether it is there now.
-pub(crate) fn keep_here<M: Maze>(maze: &M, round: &mut Round) -> Result<bool, AllocError>
-    ensures keys { OnOk result (MayEnter round.old.seen (M.key (M.rules maze.now) (M.place maze.now)) round.old.limit round.new.seen) }
-    ensures has { IfOk result (λ is. is ≡ true → Has round.new.seen (M.key (M.rules maze.now) (M.place maze.now))) }
-    ensures limit { round.new.limit ≡ round.old.limit }
-{
-    round.key.bytes.clear();
-    maze.key(&mut round.key.bytes)?;
-    match round.seen.enter(&round.key, round.limit)? {
-        Entered::There(_) => Ok(true),
-        Entered::New => Ok(true),
-        Entered::Full => Ok(false),
-    }
-}
-
-/// Makes these moves as far as they are accepted, up to the first that answers, and says how many were made.
-fn walk<M: Maze>(maze: &mut M, way: &[usize]) -> Result<usize, AllocError>
-    ensures rules { M.rules maze.new ≡ M.rules maze.old }
-    ensures before { IfOk result (λ made. drop made (M.place maze.new ∷ M.before maze.new) ≡ M.place maze.old ∷ M.before maze.old) }
-    ensures leads { let r = M.rules maze.old
-        in OnOk result (CanLead (M.moves r) (M.next r) (M.place maze.old) (M.place maze.new)) }
-{
-    'moves: for index in 0..way.len() {
-        if way[index] >= maze.moves() {
-            return Ok(index);
-        }
-        match maze.go(way[index])? {
-            Went::Moved => {}
-            Went::Answered => return Ok(index + 1),
-            Went::Refused => return Ok(index),
-            Went::TooDeep => return Ok(index),
-        }
-    }
-    Ok(way.len())
-}
-
-/// Looks where a move leads. Nothing changes but the key that was asked.
-fn look<M: Maze>(maze: &mut M, number: usize, round: &mut Round) -> Result<Leads, AllocError>
+/// Looks where a move leads, and keeps the key there, where there are fewer than so many. Whether it answers. The maze stays where it is.
+fn look<M: Maze>(
+    maze: &mut M,
+    round: &mut Round,
+    limit: usize,
+    from: usize,
+    number: usize,
+) -> Result<bool, AllocError>
     requires { number < M.moves (M.rules maze.old) (M.place maze.old) }
     ensures rules { M.rules maze.new ≡ M.rules maze.old }
-    ensures same { OnOk result ((M.place maze.new ≡ M.place maze.old) × (M.before maze.new ≡ M.before maze.old)) }
-    ensures looks { let r = M.rules maze.old
-        in IfOk result (λ leads. LooksAt (M.key r) (M.next r (M.place maze.old) number) leads round.new.key.bytes.items) }
-    ensures seen { round.new.seen ≡ round.old.seen }
-    ensures limit { round.new.limit ≡ round.old.limit }
+    ensures looked { let r = M.rules maze.old
+        in OnOk result ((M.place maze.new ≡ M.place maze.old) × (M.before maze.new ≡ M.before maze.old)
+        × ((p : M.Place) → CanLead (M.moves r) (M.next r) p (M.place maze.old)
+        → AreFew (M.moves r) (M.next r) (M.key r) (M.IsDeep r) p limit round.old.seen
+        → AreFew (M.moves r) (M.next r) (M.key r) (M.IsDeep r) p limit round.new.seen)) }
 {
     match maze.go(number)? {
-        Went::Refused => Ok(Leads::Nowhere),
-        Went::TooDeep => Ok(Leads::Nowhere),
+        Went::Refused => Ok(false),
+        Went::TooDeep => Ok(false),
         Went::Answered => {
             maze.back();
-            Ok(Leads::ToAnswer)
+            Ok(true)
         }
         Went::Moved => {
-            round.key.bytes.clear();
-            maze.key(&mut round.key.bytes)?;
+            let entered = enter_here(maze, limit, &mut round.seen, &mut round.key)?;
             maze.back();
-            Ok(Leads::On)
+            if let Entered::New = entered {
+                round.reached.push(Reaching { from, number })?;
+            }
+            Ok(false)
         }
     }
 }
@@ -153,22 +95,20 @@ fn look<M: Maze>(maze: &mut M, number: usize, round: &mut Round) -> Result<Leads
 fn spread<M: Maze>(
     maze: &mut M,
     round: &mut Round,
+    limit: usize,
     from: usize,
 ) -> Result<Option<usize>, AllocError>
     ensures rules { M.rules maze.new ≡ M.rules maze.old }
-    ensures same { OnOk result ((M.place maze.new ≡ M.place maze.old) × (M.before maze.new ≡ M.before maze.old)) }
-    ensures keys { let r = M.rules maze.old
-        in OnOk result ((p : M.Place) → CanLead (M.moves r) (M.next r) p (M.place maze.old)
-        → AreFew (M.moves r) (M.next r) (M.key r) (M.IsDeep r) p round.old.limit round.old.seen
-        → AreFew (M.moves r) (M.next r) (M.key r) (M.IsDeep r) p round.old.limit round.new.seen) }
-    ensures limit { round.new.limit ≡ round.old.limit }
+    ensures looked { let r = M.rules maze.old
+        in OnOk result ((M.place maze.new ≡ M.place maze.old) × (M.before maze.new ≡ M.before maze.old)
+        × ((p : M.Place) → CanLead (M.moves r) (M.next r) p (M.place maze.old)
+        → AreFew (M.moves r) (M.next r) (M.key r) (M.IsDeep r) p limit round.old.seen
+        → AreFew (M.moves r) (M.next r) (M.key r) (M.IsDeep r) p limit round.new.seen)) }
 {
     let count = maze.moves();
     'moves: for number in 0..count {
-        match look(maze, number, round)? {
-            Leads::Nowhere => {}
-            Leads::On => round.keep(Reaching { from, number })?,
-            Leads::ToAnswer => return Ok(Some(number)),
+        if look(maze, round, limit, from, number)? {
+            return Ok(Some(number));
         }
     }
     Ok(None)
@@ -178,38 +118,38 @@ fn spread<M: Maze>(
 fn visit<M: Maze>(
     maze: &mut M,
     round: &mut Round,
+    limit: usize,
     way: &[usize],
     from: usize,
 ) -> Result<Option<usize>, AllocError>
     ensures rules { M.rules maze.new ≡ M.rules maze.old }
-    ensures same { OnOk result ((M.place maze.new ≡ M.place maze.old) × (M.before maze.new ≡ M.before maze.old)) }
-    ensures keys { let r = M.rules maze.old
-        in OnOk result (AreFew (M.moves r) (M.next r) (M.key r) (M.IsDeep r) (M.place maze.old) round.old.limit round.old.seen
-        → AreFew (M.moves r) (M.next r) (M.key r) (M.IsDeep r) (M.place maze.old) round.old.limit round.new.seen) }
-    ensures limit { round.new.limit ≡ round.old.limit }
+    ensures looked { let r = M.rules maze.old
+        in OnOk result ((M.place maze.new ≡ M.place maze.old) × (M.before maze.new ≡ M.before maze.old)
+        × (AreFew (M.moves r) (M.next r) (M.key r) (M.IsDeep r) (M.place maze.old) limit round.old.seen
+        → AreFew (M.moves r) (M.next r) (M.key r) (M.IsDeep r) (M.place maze.old) limit round.new.seen)) }
 {
-    let made = walk(maze, way)?;
-    let found = spread(maze, round, from)?;
+    let (made, _) = walk(maze, way)?;
+    let found = spread(maze, round, limit, from)?;
     go_back(maze, made);
     Ok(found)
 }
 
 /// Looks from one place after another, in the order in which they were reached, for a move that answers, and makes the way that ends in it.
-/// Whether there is one. So many moves are made for it at most, and those of one way more. The maze stays where it is.
+/// Whether there is one. So many moves are made for it at most, and those of one way more, and so many keys are kept. The maze stays where it is.
 pub(crate) fn look_around<M: Maze>(
     maze: &mut M,
     round: &mut Round,
+    limit: usize,
     way: &mut Vec<usize>,
     effort: usize,
 ) -> Result<bool, AllocError>
     ensures rules { M.rules maze.new ≡ M.rules maze.old }
-    ensures same { OnOk result ((M.place maze.new ≡ M.place maze.old) × (M.before maze.new ≡ M.before maze.old)) }
-    ensures keys { let r = M.rules maze.old
-        in OnOk result (AreFew (M.moves r) (M.next r) (M.key r) (M.IsDeep r) (M.place maze.old) round.old.limit round.old.seen
-        → AreFew (M.moves r) (M.next r) (M.key r) (M.IsDeep r) (M.place maze.old) round.old.limit round.new.seen) }
-    ensures limit { round.new.limit ≡ round.old.limit }
+    ensures looked { let r = M.rules maze.old
+        in OnOk result ((M.place maze.new ≡ M.place maze.old) × (M.before maze.new ≡ M.before maze.old)
+        × (AreFew (M.moves r) (M.next r) (M.key r) (M.IsDeep r) (M.place maze.old) limit round.old.seen
+        → AreFew (M.moves r) (M.next r) (M.key r) (M.IsDeep r) (M.place maze.old) limit round.new.seen)) }
 {
-    let _ = keep_here(maze, round)?;
+    let _ = enter_here(maze, limit, &mut round.seen, &mut round.key)?;
     let mut left = effort;
     let mut from = 0;
     'places: while left > 0 {
@@ -219,7 +159,7 @@ pub(crate) fn look_around<M: Maze>(
         }
         round.way_to(from, way)?;
         left = left.saturating_sub(way.len());
-        if let Some(number) = visit(maze, round, way, from)? {
+        if let Some(number) = visit(maze, round, limit, way.as_slice(), from)? {
             way.push(number)?;
             return Ok(true);
         }

@@ -1,8 +1,8 @@
 //! A way that answers, made shorter.
-ghost use Rattle.std.specs.Prelude.{◌≡◌, ◌∷◌, ◌++◌, ◌+◌, ◌<◌, ◌≤◌, false, drop, take, length, IfOk, IfSome, IfNone, OnOk};
+ghost use Rattle.std.specs.Prelude.{◌≡◌, ◌∷◌, ◌++◌, ◌+◌, ◌<◌, ◌≤◌, drop, take, length, IfOk, IfSome, IfNone, MatchOption};
 ghost use Rattle.std.specs.Bool.{MatchBool};
 ghost use Rattle.uv_search.specs.Settled.{DontAnswer, IsTooDeep, IsWay};
-ghost use Rattle.uv_search.specs.Ways.{Tries};
+ghost use Rattle.uv_search.specs.Ways.{LeadTo, Tries};
 
 use crate::maze::{Maze, Went};
 use std::alloc::{AllocError, Global};
@@ -18,38 +18,30 @@ pub fn go_back<M: Maze>(maze: &mut M, moves: usize)
     }
 }
 
-/// Makes these moves up to the first that answers, and says how many they are. Where none does, or one isn't accepted, it goes back.
-fn follow<M: Maze>(maze: &mut M, way: &[usize]) -> Result<Option<usize>, AllocError>
+/// Makes these moves as far as they are accepted, up to the first that answers. How many were made, and whether the last of them answers.
+pub(crate) fn walk<M: Maze>(maze: &mut M, way: &[usize]) -> Result<(usize, bool), AllocError>
     ensures rules { M.rules maze.new ≡ M.rules maze.old }
-    ensures some { let r = M.rules maze.old
-        in IfOk result (λ led. IfSome led (λ count. (count ≤ length way.now)
-        × IsWay (M.moves r) (M.next r) (M.key r) (M.IsDeep r) (M.place maze.old) (take count way.now) (M.place maze.new)
-        × (drop count (M.place maze.new ∷ M.before maze.new) ≡ M.place maze.old ∷ M.before maze.old))) }
-    ensures none { IfOk result (λ led. IfNone led ((M.place maze.new ≡ M.place maze.old) × (M.before maze.new ≡ M.before maze.old))) }
-    ensures sure { let r = M.rules maze.old
-        in IfOk result (λ led. IfNone led ((q : M.Place) → IsWay (M.moves r) (M.next r) (M.key r) (M.IsDeep r) (M.place maze.old) way.now q
+    ensures led { let r = M.rules maze.old
+        in IfOk result (λ led. (led.0 ≤ length way.now)
+        × LeadTo (M.moves r) (M.next r) (M.place maze.old) (take led.0 way.now) (M.place maze.new)
+        × (drop led.0 (M.place maze.new ∷ M.before maze.new) ≡ M.place maze.old ∷ M.before maze.old)
+        × MatchBool led.1 (IsWay (M.moves r) (M.next r) (M.key r) (M.IsDeep r) (M.place maze.old) (take led.0 way.now) (M.place maze.new))
+        ((q : M.Place) → IsWay (M.moves r) (M.next r) (M.key r) (M.IsDeep r) (M.place maze.old) way.now q
         → (deep : M.Place) × IsTooDeep (M.moves r) (M.next r) (M.key r) (M.IsDeep r) (M.place maze.old) deep)) }
 {
     'moves: for index in 0..way.len() {
-        if way[index] >= maze.moves() {
-            go_back(maze, index);
-            return Ok(None);
+        let number = way[index];
+        if number >= maze.moves() {
+            return Ok((index, false));
         }
-        match maze.go(way[index])? {
+        match maze.go(number)? {
             Went::Moved => {}
-            Went::Answered => return Ok(Some(index + 1)),
-            Went::Refused => {
-                go_back(maze, index);
-                return Ok(None);
-            }
-            Went::TooDeep => {
-                go_back(maze, index);
-                return Ok(None);
-            }
+            Went::Answered => return Ok((index + 1, true)),
+            Went::Refused => return Ok((index, false)),
+            Went::TooDeep => return Ok((index, false)),
         }
     }
-    go_back(maze, way.len());
-    Ok(None)
+    Ok((way.len(), false))
 }
 
 /// What became of a move that was tried.
@@ -98,13 +90,12 @@ fn retrace<M: Maze>(
     way: &[usize],
 ) -> Result<Option<Vec<usize>>, AllocError>
     ensures rules { M.rules maze.new ≡ M.rules maze.old }
-    ensures some { let r = M.rules maze.old
-        in IfOk result (λ led. IfSome led (λ made. (length made.items ≤ length way.now)
+    ensures made { let r = M.rules maze.old
+        in IfOk result (λ led. MatchOption led ((M.place maze.new ≡ M.place maze.old) × (M.before maze.new ≡ M.before maze.old)
+        × DontAnswer (M.moves r) (M.next r) (M.key r) (M.IsDeep r) (M.place maze.old) way.now)
+        (λ made. (length made.items ≤ length way.now)
         × IsWay (M.moves r) (M.next r) (M.key r) (M.IsDeep r) (M.place maze.old) made.items (M.place maze.new)
         × (drop (length made.items) (M.place maze.new ∷ M.before maze.new) ≡ M.place maze.old ∷ M.before maze.old))) }
-    ensures none { IfOk result (λ led. IfNone led ((M.place maze.new ≡ M.place maze.old) × (M.before maze.new ≡ M.before maze.old))) }
-    ensures mute { let r = M.rules maze.old
-        in IfOk result (λ led. IfNone led (DontAnswer (M.moves r) (M.next r) (M.key r) (M.IsDeep r) (M.place maze.old) way.now)) }
 {
     let mut made = Vec::new(alloc);
     'moves: for index in 0..way.len() {
@@ -131,15 +122,12 @@ fn leave_out<M: Maze>(
 ) -> Result<bool, AllocError>
     requires { place < length way.old.items }
     ensures rules { M.rules maze.new ≡ M.rules maze.old }
-    ensures same { OnOk result ((M.place maze.new ≡ M.place maze.old) × (M.before maze.new ≡ M.before maze.old)) }
-    ensures long { OnOk result (length way.new.items ≤ length way.old.items) }
-    ensures shorter { IfOk result (λ left. MatchBool left (length way.new.items < length way.old.items) (way.new.items ≡ way.old.items)) }
-    ensures mute { let r = M.rules maze.old
-        in IfOk result (λ left. left ≡ false → DontAnswer (M.moves r) (M.next r) (M.key r) (M.IsDeep r) (M.place maze.old)
-        (take place way.old.items ++ drop (place + 1) way.old.items)) }
-    ensures still { let r = M.rules maze.old
-        in OnOk result ((q : M.Place) → IsWay (M.moves r) (M.next r) (M.key r) (M.IsDeep r) (M.place maze.old) way.old.items q
-        → (t : M.Place) × IsWay (M.moves r) (M.next r) (M.key r) (M.IsDeep r) (M.place maze.old) way.new.items t) }
+    ensures left { let r = M.rules maze.old
+        in IfOk result (λ left. (M.place maze.new ≡ M.place maze.old) × (M.before maze.new ≡ M.before maze.old)
+        × MatchBool left ((length way.new.items < length way.old.items)
+        × ((t : M.Place) × IsWay (M.moves r) (M.next r) (M.key r) (M.IsDeep r) (M.place maze.old) way.new.items t))
+        ((way.new.items ≡ way.old.items) × DontAnswer (M.moves r) (M.next r) (M.key r) (M.IsDeep r) (M.place maze.old)
+        (take place way.old.items ++ drop (place + 1) way.old.items))) }
 {
     let mut shorter = Vec::new(alloc);
     shorter.extend_from_slice(&way[..place])?;
@@ -199,11 +187,11 @@ pub fn shorten<M: Maze>(
             }
         }
     }
-    match follow(maze, &way)? {
-        Some(count) => {
-            way.truncate(count);
-            Ok(Some(way))
-        }
-        None => Ok(None),
+    let (count, answers) = walk(maze, &way)?;
+    if answers {
+        way.truncate(count);
+        return Ok(Some(way));
     }
+    go_back(maze, count);
+    Ok(None)
 }

@@ -1,15 +1,14 @@
 -- The earliest form of a state, and that of the state once all its times are later.
-use Rattle.uv_shift.proofs.Names.{◌≡◌, ℕ, ◌+◌, ◌-◌, ◌≤◌, List, [], ◌∷◌, ◌&&◌, Bool, true, Option, Some, None, slice_get, refl, ap, subst, ◌∙◌, arith, Id, Due, HandleRecord, Slot, Content, State, handle, handle_in, held, id_of, is_timer, Less, Place, Main, Running, Stage, Entry, Pending, Walking, Poll, Polled, Done, DoneUnwoken, Closing, Timers}
+use Rattle.uv_alike.proofs.Names.{◌≡◌, ℕ, ◌+◌, List, [], ◌∷◌, Option, Some, slice_get, refl, ap, ◌∙◌, arith, Id, Due, HandleRecord, Slot, Content, State, held, id_of, Place}
+use Rattle.uv_shift.proofs.Names.{◌-◌, ◌≤◌, subst}
 use Rattle.std.proofs.Common.{inl, inr}
 use Rattle.std.specs.Prelude.{map, option_map, min}
-use Rattle.uv_ids.specs.declared.phase.Kind.{Kind}
-use Rattle.uv_ids.specs.declared.phase.Kind.TheVariants as kind
 use Rattle.uv_work.specs.declared.content.Content.TheVariants as content
-use Rattle.uv_order.specs.Active.{due_order, Before, InOrder, Has, AreTimers}
-use Rattle.uv_shift.specs.Retimed.{Retiming, retimed_due, retimed_content, retimed_entry, retimed_stage, retimed_place, retimed}
+use Rattle.uv_order.specs.Active.{Before, Has, AreTimers}
+use Rattle.uv_shift.specs.Retimed.{Retiming, retimed_due, retimed_content, retimed_entry, retimed_place, retimed}
 use Rattle.uv_shift.specs.Shift.{By, later, shift}
-use Rattle.uv_shift.specs.Earliest.{earlier, or_first, or_deadline, or_over, least_start, base, earliest}
-use Rattle.uv_shift.proofs.Later.{shift_entry, shift_stage, shift_place}
+use Rattle.uv_shift.specs.Earliest.{earlier, or_first, or_over, least_start, base, earliest}
+use Rattle.uv_shift.proofs.Later.{shift_entry}
 use Rattle.uv_shift.proofs.Retimed.{both, twice, handle_same, slots_same}
 
 -- ---- none of its times is earlier than its base
@@ -18,9 +17,6 @@ first_before : (a : Due) (ts : List (Due × Id)) (due : Due) (id : Id) → Befor
 first_before a [] due id h k = absurd k
 first_before a (t ∷ ts) due id h (inl is) = subst (λ (x : Due). a.at ≤ x.at) is.0 (grind arith)
 first_before a (t ∷ ts) due id h (inr rest) = first_before a ts due id h.1 rest
-
-first_least : (ts : List (Due × Id)) (at : ℕ) (due : Due) (id : Id) → InOrder ts → Has ts due id → or_first ts at ≤ due.at
-first_least each at due id h e5 = grind (arith, first_before)
 
 or_first_least : (ts : List (Due × Id)) (at : ℕ) → or_first ts at ≤ at
 or_first_least ts at = grind arith
@@ -80,7 +76,7 @@ earliest_later s k =
     let shown : s.clock - d.ms + d.ms ≡ s.clock = omega (arith, one, two) in
     let start : s.next_start - d.starts + d.starts ≡ s.next_start = omega (arith, three) in
     let dues : (due : Due) (id : Id) → Has s.timers due id → (d.ms ≤ due.at) × (d.starts ≤ due.start) =
-    λ due id h. (grind (arith, first_least, start_least)) in
+    λ due id h. (grind (arith, first_before, start_least)) in
     let slots = slots_same (again d) s.arena.slots
     (λ n slot e. let there = held_there s.arena.slots n slot e in content_again d s n slot slot.content k dues there) in
     let place = place_again d s.place clock (omega arith) in

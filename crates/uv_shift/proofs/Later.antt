@@ -1,7 +1,7 @@
 -- The parts of a state whose times are later.
-use Rattle.uv_shift.proofs.Names.{◌≡◌, ◌+◌, ◌<◌, ◌^◌, true, Bool, Option, Some, Id, Due, Op, HandleRecord, Slot, Slots, Content, Place, Run, Stage, Program, State, handle, front, first_due, is_timer}
-use Rattle.uv_ids.specs.declared.code.Answer.{Answer}
-use Rattle.uv_shift.specs.Retimed.{retimed_due, retimed_if, retimed_handle, retimed_content, retimed_slot, retimed_arena, retimed_entry, retimed_stage, retimed_run, retimed_place, retimed_answer}
+use Rattle.uv_alike.proofs.Names.{◌≡◌, ◌+◌, ◌<◌, true, Bool, Some, Id, Due, Op, HandleRecord, Slot, Content, Place, Program, State, handle, front}
+use Rattle.uv_shift.proofs.Names.{◌^◌, first_due, is_timer}
+use Rattle.uv_shift.specs.Retimed.{retimed_due, retimed_if, retimed_handle, retimed_content, retimed_slot, retimed_entry, retimed_place}
 use Rattle.uv_ids.specs.declared.seen.Site.{Site}
 use Rattle.uv_script.specs.Program.{op_at}
 use Rattle.uv_shift.specs.Shift.{By, later, FitsOp}
@@ -21,23 +21,11 @@ shift_content d x = retimed_content (later d) x
 abbrev pub shift_slot : By → Slot Content → Slot Content
 shift_slot d slot = retimed_slot (later d) slot
 
-abbrev pub shift_arena : By → Slots Content → Slots Content
-shift_arena d a = retimed_arena (later d) a
-
 abbrev pub shift_entry : By → Due × Id → Due × Id
 shift_entry d t = retimed_entry (later d) t
 
-abbrev pub shift_stage : By → Stage → Stage
-shift_stage d stage = retimed_stage (later d) stage
-
-abbrev pub shift_run : By → Run → Run
-shift_run d run = retimed_run (later d) run
-
 abbrev pub shift_place : By → Place → Place
 shift_place d place = retimed_place (later d) place
-
-abbrev pub shift_answer : By → Option Op → Answer → Answer
-shift_answer d o a = retimed_answer (later d) o a
 
 -- what the later state keeps, of the state itself
 pub record CanShift (p : Program) (d : By) (s : State) : Type 0 where

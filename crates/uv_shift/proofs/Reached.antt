@@ -1,19 +1,19 @@
 -- Each state that steps lead to can be moved, where the script's numbers are small.
-use Rattle.uv_shift.proofs.Names.{◌≡◌, ℕ, suc, ◌+◌, ◌<◌, ◌≤◌, ◌^◌, true, List, [], ◌∷◌, refl, ap, sym, ◌∙◌, arith, elements, replicate, same_Some, Option, Some, None, Id, Due, Event, Program, Op, HandleRecord, State, handle, front, first_due, fresh, goes_on, state_of, is_timer, with_id, unbound, Next}
+use Rattle.uv_alike.proofs.Names.{◌≡◌, ℕ, suc, ◌+◌, ◌<◌, true, List, [], ◌∷◌, refl, ap, ◌∙◌, arith, Some, Id, Due, Event, Program, Op, HandleRecord, State, handle, front}
+use Rattle.uv_shift.proofs.Names.{◌≤◌, ◌^◌, elements, first_due, fresh, goes_on, state_of, is_timer, Next}
 use Rattle.std.proofs.Common.{inl}
 use Rattle.uv_ids.specs.declared.phase.Kind.TheVariants as kind
 use Rattle.uv_model.specs.After.{after}
 use Rattle.uv_model.specs.Limits.{LATEST}
 use Rattle.uv_model.specs.Next.{next}
 use Rattle.uv_model.proofs.Bounded.{next_bounded}
-use Rattle.uv_model.proofs.Counting.{Counts, IsBounded, StaysBounded}
-use Rattle.uv_order.specs.Active.{has_id, Has, IsTimer}
+use Rattle.uv_model.proofs.Counting.{IsBounded, StaysBounded}
+use Rattle.uv_order.specs.Active.{Has, IsTimer}
 use Rattle.uv_order.specs.Reached.{AreSetAside}
 use Rattle.uv_order.proofs.Reaching.{reached}
 use Rattle.uv_shift.specs.Shift.{FitsOp, IsShort, IsShortOp}
 use Rattle.uv_shift.specs.Earliest.{IsTimed}
 use Rattle.uv_shift.proofs.Short.{held_short, after_short}
-use Rattle.uv_shift.proofs.Slots.{front_held}
 use Rattle.uv_shift.proofs.Slots.{first_due_held}
 
 -- ---- the loop's time, after however many steps
@@ -37,12 +37,9 @@ timer_kind : (s : State) (id : Id) (its h : HandleRecord) → handle s id ≡ So
     is_timer h.kind ≡ true
 timer_kind s id its h holds is there = cc
 
-front_id : (s : State) (id : Id) (ids : List Id) (t : Id × HandleRecord) → front s (id ∷ ids) ≡ Some t → id ≡ t.0
-front_id s id ids t e = grind arith
-
 ready_timers : (s : State) (ids : List Id) (t : Id × HandleRecord) → AreSetAside s ids → front s ids ≡ Some t → is_timer t.1.kind ≡ true
 ready_timers s [] t h e = cc e
-ready_timers s (id ∷ ids) t h e = grind (arith, timer_kind, front_id, front_held)
+ready_timers s (id ∷ ids) t h e = grind (arith, timer_kind)
 
 first_timers : (s : State) (ts : List (Due × Id)) (t : Id × HandleRecord) → ((due : Due) (id : Id) → Has ts due id → IsTimer s due id) →
     first_due s ts ≡ Some t → is_timer t.1.kind ≡ true

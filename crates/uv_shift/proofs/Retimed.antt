@@ -1,12 +1,8 @@
 -- What becomes of a state whose times become others twice, and where none of them does.
-use Rattle.uv_shift.proofs.Names.{◌≡◌, ℕ, zero, suc, List, [], ◌∷◌, ◌&&◌, Bool, true, false, Option, Some, None, slice_get, refl, ap, ap₂, arith, Id, Due, Op, Seen, HandleRecord, Slot, Content, Program, State, is_timer, Place, Main, Running, Stage, Entry, Pending, Walking, Poll, Polled, Done, DoneUnwoken, Closing, Timers}
+use Rattle.uv_alike.proofs.Names.{◌≡◌, ℕ, zero, suc, List, [], ◌∷◌, ◌&&◌, true, Option, Some, slice_get, refl, ap, ap₂, arith, Id, Due, HandleRecord, Slot, Content, State, Place}
+use Rattle.uv_shift.proofs.Names.{is_timer}
 use Rattle.std.specs.Prelude.{map, option_map}
-use Rattle.uv_ids.specs.declared.code.Answer.{Answer}
-use Rattle.uv_ids.specs.declared.seen.Seen.TheVariants as seen
-use Rattle.uv_script.specs.Program.{op_at}
-use Rattle.uv_work.specs.declared.content.Content.TheVariants as content
-use Rattle.uv_shift.specs.Retimed.{Retiming, retimed_due, retimed_if, retimed_handle, retimed_content, retimed_slot, retimed_entry, retimed_stage, retimed_place, retimed, retimed_answer, retimed_line}
-use Rattle.uv_shift.specs.Earliest.{untimed, untimed_line}
+use Rattle.uv_shift.specs.Retimed.{Retiming, retimed_due, retimed_handle, retimed_content, retimed_slot, retimed_entry, retimed_place, retimed}
 
 -- ---- twice
 
@@ -32,10 +28,6 @@ place_twice f g place = grind arith
 
 pub twice : (f g : Retiming) (s : State) → retimed f (retimed g s) ≡ retimed (both f g) s
 twice f g s = simp (place_twice, slots_twice, timers_twice)
-
-pub lines_untimed : (p : Program) (f : Retiming) (o : Option Seen) →
-    option_map (untimed_line p) (option_map (retimed_line p f) o) ≡ option_map (untimed_line p) o
-lines_untimed p f o = grind arith
 
 -- ---- where no time becomes another
 

@@ -1,10 +1,9 @@
 -- No timer's repeat is longer than those of the script.
-use Rattle.uv_shift.proofs.Names.{◌≡◌, ℕ, ◌<◌, List, [], ◌∷◌, ◌++◌, Option, Some, None, arith, subst, cond_both, elements, All, option_and_then, handle, handle_in, taken_from, Slot, Slots, Content, goes_on, fresh, held_in, ◌==◌, slice_get, slice_set, Id, Event, Op, HandleRecord, Program, arena_size, State, freed, Next, state_of, refl, sym}
-use Rattle.std.proofs.Common.{inl, inr}
+use Rattle.uv_alike.proofs.Names.{◌≡◌, ℕ, ◌<◌, List, [], ◌∷◌, ◌++◌, Option, Some, None, arith, option_and_then, handle, handle_in, taken_from, Slot, Slots, Content, held_in, ◌==◌, slice_get, slice_set, Id, Event, Op, HandleRecord, Program, arena_size, State, freed, refl}
+use Rattle.uv_shift.proofs.Names.{subst, cond_both, elements, All, goes_on, fresh, Next, state_of}
 use Rattle.uv_model.specs.Next.{next}
-use Rattle.uv_work.specs.declared.content.Content.TheVariants as content
 use Rattle.uv_model.specs.After.{after}
-use Rattle.uv_alike.proofs.Kept.{RepeatsAs, StaysKept, op_repeat, repeat_in, next_kept}
+use Rattle.uv_alike.proofs.Kept.{RepeatsAs, StaysKept, op_repeat, next_kept}
 use Rattle.uv_records.specs.declared.named.Named.{Named}
 use Rattle.uv_shift.specs.Shift.{IsShortOp, IsShort}
 
@@ -53,14 +52,7 @@ op_short : (n : ℕ) (o : Op) (m : ℕ) → IsShortOp n o → op_repeat o ≡ So
 op_short n o m short e = grind arith
 
 repeats_short : (n : ℕ) (x y : Content) → 0 < n → RepeatsAs (λ m. m < n) x y → IsShortIn n (handle_in (Some x)) → IsShortIn n (handle_in (Some y))
-repeats_short n x (content.Request r) pos again k = tt
-repeats_short n (content.Handle h) (content.Handle g) pos (inl same) k = subst (λ m. m < n) (sym same) k
-repeats_short n (content.Request r) (content.Handle g) pos (inl same) k = subst (λ m. m < n) (sym same) pos
-repeats_short n x (content.Handle g) pos (inr less) k = less
-
-first_short : (n : ℕ) (x : Content) → 0 < n → repeat_in x ≡ 0 → IsShortIn n (handle_in (Some x))
-first_short n (content.Handle h) pos none = subst (λ m. m < n) (sym none) pos
-first_short n (content.Request r) pos none = tt
+repeats_short n each e2 pos e4 k = grind arith
 
 -- all that is held
 abbrev AreShort : ℕ → List Named → Slots Content → Type 0
@@ -73,7 +65,7 @@ next_short p n s e pos short k = next_kept p (λ v. Unit {0}) (λ m. m < n) (Are
   counted = λ ns a v c h. h;
   turned = λ ns a id x y holds same again h. short_set n a.slots id.slot _ h
       (repeats_short n x y pos again (subst (λ c. IsShortIn n (handle_in c)) holds (found_short n a.slots id (slice_get a.slots id.slot) refl h)));
-  made = λ ns a v id x may same first loose there h. taken_short n a.free id x a h (first_short n x pos first);
+  made = λ ns a v id x may same first loose there h. taken_short n a.free id x a h (grind arith);
   freed = λ id x holds h. freed_short n (arena_size p).last_generation id s.arena h;
 }) e k
 

@@ -1,5 +1,6 @@
 -- What the slots of a state hold whose times are later, and who is found.
-use Rattle.uv_shift.proofs.Names.{◌≡◌, List, [], ◌∷◌, Option, Some, None, refl, ap, ◌∙◌, arith, Id, Var, Due, HandleRecord, Slot, Content, State, named, handle, live_id, live_handle, as_handle, front, first_due, with_id, handle_in, held, Result, Ok}
+use Rattle.uv_alike.proofs.Names.{◌≡◌, List, Option, Some, ap, ◌∙◌, arith, Id, Due, HandleRecord, Slot, Content, State, handle, handle_in, held}
+use Rattle.uv_shift.proofs.Names.{first_due}
 use Rattle.std.proofs.lemmas.Option.{slice_get-map}
 use Rattle.std.specs.Prelude.{map, option_map}
 use Rattle.uv_shift.specs.Shift.{By, shift}
@@ -21,22 +22,5 @@ handle_shift d s id = ap handle_in (held_shift d s.arena.slots id) ∙ handle_of
 abbrev pub shift_pair : By → Id × HandleRecord → Id × HandleRecord
 shift_pair d t = (t.0, shift_handle d t.1)
 
-pub with_id_shift : (d : By) (id : Id) (o : Option HandleRecord) →
-    with_id id (option_map (shift_handle d) o) ≡ option_map (shift_pair d) (with_id id o)
-with_id_shift d id o = grind arith
-
-pub front_shift : (d : By) (s : State) (ids : List Id) → front (shift d s) ids ≡ option_map (shift_pair d) (front s ids)
-front_shift d s ids = grind (arith, handle_shift, with_id_shift)
-
-pub front_held : (s : State) (ids : List Id) (t : Id × HandleRecord) → front s ids ≡ Some t → handle s t.0 ≡ Some t.1
-front_held s ids t e = grind arith
-
 pub first_due_held : (s : State) (ts : List (Due × Id)) (t : Id × HandleRecord) → first_due s ts ≡ Some t → handle s t.0 ≡ Some t.1
 first_due_held s ts t e = grind arith
-
-held_as_handle : (s : State) (o : Option Id) (t : Id × HandleRecord) → as_handle (live_id s o) ≡ Ok t → handle s t.0 ≡ Some t.1
-held_as_handle s o t e = grind arith
-
--- a live handle is held
-pub live_held : (s : State) (v : Var) (t : Id × HandleRecord) → live_handle s v ≡ Ok t → handle s t.0 ≡ Some t.1
-live_held s v t e = held_as_handle s (named s v).id t e

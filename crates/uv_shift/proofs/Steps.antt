@@ -1,12 +1,13 @@
 -- A step of the loop where all times are later.
-use Rattle.uv_shift.proofs.Names.{◌≡◌, ℕ, ◌+◌, ◌≤◌, Option, Some, refl, ap, sym, ◌∙◌, arith, Event, Tick, Seen, Program, State, Next, Moves, Refuses}
+use Rattle.uv_alike.proofs.Names.{◌≡◌, ℕ, ◌+◌, Option, ap, sym, ◌∙◌, arith, Event, Tick, Seen, Program, State, Moves}
+use Rattle.uv_shift.proofs.Names.{◌≤◌, Next, Refuses}
 use Rattle.std.specs.Prelude.{option_map}
 use Rattle.uv_model.specs.Limits.{LATEST}
 use Rattle.uv_model.specs.Next.{next}
-use Rattle.uv_shift.specs.Shift.{By, shift, shift_line, shift_next, TimesFit, ClockFits, IsMoved}
+use Rattle.uv_shift.specs.Shift.{By, shift, shift_next, TimesFit, ClockFits, IsMoved}
 use Rattle.uv_shift.proofs.Later.{CanShift, shift_handle}
 use Rattle.uv_shift.proofs.Cases.{if_shift}
-use Rattle.uv_shift.proofs.Slots.{shift_pair, front_shift, handle_shift}
+use Rattle.uv_shift.proofs.Slots.{shift_pair, handle_shift}
 use Rattle.uv_shift.proofs.ByLater.{next_later}
 
 -- where the due times of the later state fit, each part of the state itself can be moved
@@ -14,7 +15,7 @@ pub can_shift : (p : Program) (d : By) (s : State) → TimesFit p (shift d s) �
 can_shift p d s h = record {
   starts = h.starts;
   repeats = λ id its is. h.repeats id (shift_handle d its) (handle_shift d s id ∙ ap (option_map (shift_handle d)) is);
-  ready = λ t is. h.ready (shift_pair d t) (front_shift d s s.ready ∙ ap (option_map (shift_pair d)) is);
+  ready = λ t is. h.ready (shift_pair d t) (grind (arith, handle_shift));
   first = λ t is. h.first (shift_pair d t) (grind (arith, if_shift, handle_shift));
 }
 

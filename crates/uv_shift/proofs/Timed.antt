@@ -1,9 +1,8 @@
 -- Where the times of a later state fit, those of the state itself do.
-use Rattle.uv_shift.proofs.Names.{◌≡◌, ℕ, ◌+◌, List, [], ◌∷◌, ◌&&◌, Bool, true, Option, Some, None, refl, ap, sym, subst, ◌∙◌, arith, none-some, same_Some, Id, Due, Op, HandleRecord, Program, State, handle, is_timer}
+use Rattle.uv_alike.proofs.Names.{◌≡◌, ℕ, ◌+◌, List, [], ◌∷◌, ◌&&◌, Bool, true, refl, ap, sym, ◌∙◌, arith, Id, Due, Op, Program, State}
+use Rattle.uv_shift.proofs.Names.{subst, is_timer}
 use Rattle.std.proofs.Common.{inl, inr}
 use Rattle.std.specs.Prelude.{map, option_map}
-use Rattle.uv_ids.specs.declared.phase.Kind.{Kind}
-use Rattle.uv_ids.specs.declared.phase.Kind.TheVariants as kind
 use Rattle.uv_order.specs.Active.{Before, InOrder, Has, IsTimer, AreTimers}
 use Rattle.uv_shift.specs.Shift.{By, shift, FitsOp, TimesFit}
 use Rattle.uv_shift.specs.Earliest.{base, earliest, IsTimed}
@@ -14,9 +13,6 @@ use Rattle.uv_shift.proofs.Base.{earliest_later}
 
 -- ---- the order of timers
 
-same_due : (d : By) (a b : Due) → shift_due d a ≡ shift_due d b → a ≡ b
-same_due d a b e = grind arith
-
 pub has_later : (d : By) (ts : List (Due × Id)) (due : Due) (id : Id) → Has ts due id → Has (map (shift_entry d) ts) (shift_due d due) id
 has_later d [] due id h = h
 has_later d (t ∷ ts) due id (inl is) = inl (ap (shift_due d) is.0, is.1)
@@ -24,7 +20,7 @@ has_later d (t ∷ ts) due id (inr rest) = inr (has_later d ts due id rest)
 
 has_earlier : (d : By) (ts : List (Due × Id)) (due : Due) (id : Id) → Has (map (shift_entry d) ts) (shift_due d due) id → Has ts due id
 has_earlier d [] due id h = h
-has_earlier d (t ∷ ts) due id (inl is) = inl (same_due d t.0 due is.0, is.1)
+has_earlier d (t ∷ ts) due id (inl is) = inl (grind arith)
 has_earlier d (t ∷ ts) due id (inr rest) = inr (has_earlier d ts due id rest)
 
 before_earlier : (d : By) (a : Due) (ts : List (Due × Id)) → Before (shift_due d a) (map (shift_entry d) ts) → Before a ts
@@ -38,11 +34,8 @@ order_earlier d (t ∷ ts) h = (before_earlier d t.0 ts h.0, order_earlier d ts 
 shifted : (d : By) (b : Bool) (due : Due) → b ≡ true → shift_if b d due ≡ shift_due d due
 shifted d b due e = rw e refl
 
-on_timer : (active : Bool) (k : Kind) → active ≡ true → k ≡ kind.Timer → active && is_timer k ≡ true
-on_timer active k a e = rw a (rw e refl)
-
 timer_earlier : (d : By) (s : State) (due : Due) (id : Id) → IsTimer (shift d s) (shift_due d due) id → IsTimer s due id
-timer_earlier d s due id k = grind (arith, handle_shift, shifted, on_timer, same_due)
+timer_earlier d s due id k = grind (arith, handle_shift, shifted)
 
 timer_later : (d : By) (s : State) (due : Due) (id : Id) → IsTimer s due id → IsTimer (shift d s) (shift_due d due) id
 timer_later d s due id k = record {
@@ -50,7 +43,7 @@ timer_later d s due id k = record {
   holds = handle_shift d s id ∙ ap (option_map (shift_handle d)) k.holds;
   kind = k.kind;
   active = k.active;
-  due = shifted d (k.its.active && is_timer k.its.kind) k.its.due (on_timer k.its.active k.its.kind k.active k.kind) ∙ ap (shift_due d) k.due;
+  due = shifted d (k.its.active && is_timer k.its.kind) k.its.due (grind arith) ∙ ap (shift_due d) k.due;
 }
 
 pub timers_earlier : (d : By) (s : State) → AreTimers (shift d s) (shift d s).timers → AreTimers s s.timers

@@ -1,6 +1,6 @@
 -- The earliest form of a state: all its times as early as they can be, and its numbers of starts as small. States that have it in common
 -- differ in nothing else.
-use Rattle.std.specs.Prelude.{◌≡◌, ℕ, ◌-◌, List, [], ◌∷◌, Option, Some, option_map, min}
+use Rattle.std.specs.Prelude.{ℕ, ◌-◌, List, [], ◌∷◌, Some, min}
 use Rattle.uv_ids.specs.declared.id.Id.{Id}
 use Rattle.uv_ids.specs.declared.due.Due.{Due}
 use Rattle.uv_ids.specs.declared.seen.Seen.{Seen}
@@ -10,7 +10,6 @@ use Rattle.uv_model.specs.declared.place.Place.TheVariants.{Main, Running}
 use Rattle.uv_model.specs.declared.place.Stage.{Stage}
 use Rattle.uv_model.specs.declared.place.Stage.TheVariants.{Poll}
 use Rattle.uv_model.specs.State.{State}
-use Rattle.uv_model.specs.Next.{Next, Moves}
 use Rattle.uv_order.specs.Active.{AreTimers}
 use Rattle.uv_shift.specs.Retimed.{Retiming, retimed, retimed_line}
 use Rattle.uv_shift.specs.Shift.{By, TimesFit}
@@ -67,12 +66,3 @@ untimed = record { time = λ at. 0; start = λ n. 0 }
 -- a line without the time that the op `now` answers
 abbrev pub untimed_line : Program → Seen → Seen
 untimed_line p line = retimed_line p untimed line
-
--- this step, too, is taken: it comes to a state with the earliest form of the other one, with a line that is the same except for the
--- answer of `now`
-pub record GoesAlike (p : Program) (x : Next) (t : State) (line : Option Seen) : Type 0 where
-  pub state : State
-  pub says : Option Seen
-  pub takes : x ≡ Moves state says
-  pub same : earliest state ≡ earliest t
-  pub same_line : option_map (untimed_line p) says ≡ option_map (untimed_line p) line

@@ -9,7 +9,7 @@ ghost use Rattle.uv_model.specs.After.{after};
 ghost use Rattle.uv_model.specs.Limits.{LATEST};
 ghost use Rattle.uv_order.specs.Active.{AreTimers};
 ghost use Rattle.uv_shift.specs.Shift.{By, shift, shift_next, TimesFit, ClockFits, IsMoved, IsShort};
-ghost use Rattle.uv_shift.specs.Earliest.{base, earliest, IsTimed, GoesAlike};
+ghost use Rattle.uv_shift.specs.Earliest.{base, earliest, IsTimed};
 
 /// For every script, state and event: a step from a state whose times are all later by as many ms is the step from the state itself,
 /// with all times later. So long as no due time that it sets is cut at the largest number, and the clock doesn't come to its limit. It
@@ -31,18 +31,6 @@ pub fn next_back()
 pub fn earliest_form()
     ensures moved { (s : State) → AreTimers s s.timers → shift (base s) (earliest s) ≡ s }
     ensures same { (d : By) (s : State) → earliest (shift d s) ≡ earliest s }
-{}
-
-/// What one of two states takes that have the same earliest form, the other one takes as well, where the clock doesn't come to its
-/// limit: to states with the same earliest form again, with lines that are the same except for the answer of `now`. So it is of a state and
-/// its earliest form. It does nothing, and is called for its clause.
-pub fn goes_alike()
-    ensures alike { (p : Program) (s other : State) (e : Event) (t : State) (line : Option Seen) → IsTimed p s → IsTimed p other →
-        earliest s ≡ earliest other → next p s e ≡ Moves t line → ClockFits other e → GoesAlike p (next p other e) t line }
-    ensures forward { (p : Program) (s : State) (e : Event) (t : State) (line : Option Seen) → IsTimed p s → next p s e ≡ Moves t line →
-        GoesAlike p (next p (earliest s) e) t line }
-    ensures backward { (p : Program) (s : State) (e : Event) (t : State) (line : Option Seen) → IsTimed p s →
-        next p (earliest s) e ≡ Moves t line → ClockFits s e → GoesAlike p (next p s e) t line }
 {}
 
 /// Each state that steps lead to, however many they are, can be moved so: where the numbers of the script and the clock's limit together

@@ -5,4 +5,4 @@
 
 mod laws;
 
-pub use laws::{earliest_form, goes_alike, next_back, stays_timed, times_shift};
+pub use laws::{earliest_form, next_back, stays_timed, times_shift};

@@ -1,14 +1,14 @@
 -- Slots in another order are slots that are named anew: the loop goes on alike.
-use Rattle.uv_slots.proofs.Names.{◌≡◌, ℕ, zero, suc, List, [], ◌∷◌, Bool, Option, Some, None, refl, ap, sym, option_and_then, ◌==◌, ◌&&◌, length, Id, Due, Var, Event, Slot, Slots, Content, Program, State, named, handle, front, held, held_in, id_of, next_id, taken_from, freed}
+use Rattle.uv_alike.proofs.Names.{◌≡◌, ℕ, zero, suc, List, [], ◌∷◌, Bool, Option, Some, None, refl, ap, sym, option_and_then, ◌==◌, ◌&&◌, length, Id, Due, Event, Slot, Slots, Content, Program, State, handle, front, held, held_in, id_of, next_id, taken_from, freed}
 use Rattle.std.specs.Prelude.{◌≤◌, map, option_map}
 use Rattle.std.proofs.lemmas.List.{length-set}
 use Rattle.uv_records.specs.Slots.{next_unused}
 use Rattle.uv_model.specs.Next.{next, first_due}
 use Rattle.uv_shift.proofs.Cases.{if_shift}
-use Rattle.uv_slots.specs.Arranged.{IsOrder, place_of, arranged_slots, arranged_id, arranged_named, arranged_entry, arranged_arena, arranged, arranged_next}
+use Rattle.uv_slots.specs.Arranged.{IsOrder, place_of, arranged_slots, arranged_id, arranged_entry, arranged_arena, arranged, arranged_next}
 use Rattle.uv_slots.proofs.Orders.{Fits, same_place, place_behind, get_arranged, set_arranged, push_arranged, length_arranged, any_arranged}
 use Rattle.uv_slots.proofs.Relabel.{Relabel}
-use Rattle.uv_slots.proofs.RelabeledSlots.{handle_relabeled, front_relabeled, named_relabeled}
+use Rattle.uv_slots.proofs.RelabeledSlots.{handle_relabeled, front_relabeled}
 use Rattle.uv_slots.proofs.RelabeledSlots.{first_due_relabeled}
 use Rattle.uv_slots.proofs.Relabeling.{next_relabeled}
 
@@ -73,9 +73,6 @@ handle_arranged o s id fits = handle_relabeled (by_order o fits.order) s id fits
 pub front_arranged : (o : List ℕ) (s : State) (ids : List Id) → Fits o s.arena.slots →
     front (arranged o s) (map (arranged_id o) ids) ≡ option_map (arranged_pair o) (front s ids)
 front_arranged o s ids fits = front_relabeled (by_order o fits.order) s ids fits.within
-
-pub named_arranged : (o : List ℕ) (s : State) (v : Var) → IsOrder o → named (arranged o s) v ≡ arranged_named o (named s v)
-named_arranged o s v order = named_relabeled (by_order o order) s v
 
 pub first_due_arranged : (o : List ℕ) (s : State) (ts : List (Due × Id)) → Fits o s.arena.slots →
     first_due (arranged o s) (map (arranged_entry o) ts) ≡ option_map (arranged_pair o) (first_due s ts)

@@ -1,5 +1,5 @@
 -- Names that forget in which slot that was which is gone.
-use Rattle.uv_slots.proofs.Names.{if◌then◌else◌, Bool, List, None, Option, Some, [], ap, ap₂, arith, false, length, not, refl, suc, sym, true, ℕ, ◌&&◌, ◌+◌, ◌∙◌, ◌∷◌, ◌≡◌, Event, Id, Var, Seen, Moves, State, named, Slots, freed, held, next_id, taken_from, Named, Slot, Program, Content}
+use Rattle.uv_alike.proofs.Names.{if◌then◌else◌, Bool, List, None, Option, Some, [], ap, ap₂, arith, false, length, not, refl, suc, sym, true, ℕ, ◌&&◌, ◌+◌, ◌∙◌, ◌∷◌, ◌≡◌, Event, Id, Var, Seen, Moves, State, named, Slots, freed, held, next_id, taken_from, Named, Program, Content}
 use Rattle.std.proofs.Common.{subst}
 use Rattle.std.specs.Prelude.{map, option_map, is_some, ◌≤◌}
 use Rattle.std.proofs.lemmas.Grind.{elements}
@@ -39,16 +39,12 @@ pub freed_past : (last : ℕ) (a : Slots Content) (id old : Id) (x : Content) �
     is_past (freed last old a) id ≡ true
 freed_past last a id old x holds past = grind (arith, elements)
 
-freed_gone : (last : ℕ) (a : Slots Content) (id old : Id) (x : Content) → held a.slots old ≡ Some x → is_past a id ≡ true → held a.slots id ≡ None →
-    held (freed last old a).slots id ≡ None
-freed_gone last a id old x holds past none = grind (arith, elements)
-
 gone_kept : (p : Program) (id : Id) → IsKept p (λ ns a. IsGone id a)
 gone_kept p id = record {
   counted = λ ns a v c gone. gone;
   turned = λ ns a old x y holds gone. (turned_past a id old x y holds ∙ gone.0, turned_gone a id old x y holds gone.1);
   made = λ ns a v new x there gone. (made_past a a.free id new x refl there gone.0, made_gone a a.free id new x refl there gone.0 gone.1);
-  freed = grind (arith, freed_past, freed_gone);
+  freed = grind (arith, freed_past, elements);
 }
 
 -- ---- what is gone, and is not to come, gets the one dead id
@@ -119,15 +115,3 @@ alike_buried p dead s t e can can_too same = sym (names_buried p dead s e can) �
 -- the names of a buried state
 pub named_buried : (dead : ℕ) (s : State) (v : Var) → named (buried dead s) v ≡ buried_name dead s.arena.slots (named s v)
 named_buried dead s v = named_rebound (buried_id dead s.arena.slots) s v
-
-gone_by : (dead : ℕ) (slots : List (Slot Content)) (old id : Id) → buried_id dead slots old ≡ id → held slots id ≡ None → id ≡ dead_id dead
-gone_by dead slots old id is none = grind arith
-
-pub gone_buried : (dead : ℕ) (s : State) (v : Var) (id : Id) → (named (buried dead s) v).id ≡ Some id → held s.arena.slots id ≡ None →
-    id ≡ dead_id dead
-gone_buried dead s v id bound none = grind (arith, named_buried, gone_by)
-
-pub buried_again : (dead : ℕ) (s : State) → length s.arena.slots + s.arena.unused ≤ dead → buried dead (buried dead s) ≡ buried dead s
-buried_again dead s beyond = ap (λ (ns : List Named). record s { names = ns })
-    (again (buried_id dead s.arena.slots) (buried_id dead s.arena.slots) s.names
-    (λ id. (let gone = dead_gone dead s.arena beyond in grind arith)))

@@ -1,6 +1,6 @@
 -- What is asked of a state for its names to be buried, each step keeps.
-use Rattle.uv_slots.proofs.Names.{List, Option, Some, [], arith, length, refl, slice_set, suc, sym, true, zero, ℕ, ◌+◌, ◌∙◌, ◌∷◌, ◌≡◌, Event, Id, Seen, Moves, State, named, Slots, freed, held, next_free, next_id, taken, taken_from, Named, Program, arena_size, Content}
-use Rattle.std.specs.Prelude.{option_map, ◌≤◌, ◌⊎◌}
+use Rattle.uv_alike.proofs.Names.{List, Option, Some, [], arith, length, refl, slice_set, suc, sym, true, zero, ℕ, ◌+◌, ◌∙◌, ◌∷◌, ◌≡◌, Event, Id, Seen, Moves, State, Slots, freed, held, next_free, next_id, taken, taken_from, Named, Program, arena_size, Content}
+use Rattle.std.specs.Prelude.{◌≤◌, ◌⊎◌}
 use Rattle.std.proofs.Common.{subst, inl, inr}
 use Rattle.std.proofs.lemmas.Grind.{elements}
 use Rattle.uv_records.specs.Names as names
@@ -10,7 +10,7 @@ use Rattle.uv_model.specs.After.{after, goes_on, state_of}
 use Rattle.uv_model.specs.State.{fresh}
 use Rattle.uv_model.specs.Next.{Next, Refuses, next}
 use Rattle.uv_slots.specs.Arranged.{times}
-use Rattle.uv_slots.specs.Buried.{buried_id, buried, is_past, CanBury}
+use Rattle.uv_slots.specs.Buried.{buried, is_past, CanBury}
 use Rattle.uv_slots.proofs.Buries.{named_buried, turned_past, made_past, freed_past, dead_gone}
 use Rattle.uv_alike.proofs.Kept.{StaysKept}
 use Rattle.uv_alike.proofs.Walked.{IsKept, next_kept}
@@ -130,9 +130,5 @@ after_can p dead es beyond = goes_on_can p dead (fresh p) es (grind (arith, elem
 
 -- ---- with the names buried
 
-buried_past : (dead : ℕ) (a : Slots Content) (o : Option Id) (id : Id) → length a.slots + a.unused ≤ dead →
-    ((old : Id) → o ≡ Some old → is_past a old ≡ true) → option_map (buried_id dead a.slots) o ≡ Some id → is_past a id ≡ true
-buried_past dead a o id beyond past e = grind (arith, dead_gone)
-
 pub buried_can : (dead : ℕ) (s : State) → CanBury dead s → CanBury dead (buried dead s)
-buried_can dead s can = grind (arith, buried_past, named_buried)
+buried_can dead s can = grind (arith, dead_gone, named_buried)

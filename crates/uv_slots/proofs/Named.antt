@@ -1,5 +1,5 @@
 -- Names and what the slots hold under them, and how the changes of a state keep that they agree.
-use Rattle.uv_slots.proofs.Names.{if◌then◌else◌, ◌≡◌, ℕ, zero, suc, ◌<◌, ◌+◌, ◌==◌, List, [], ◌∷◌, length, Bool, true, false, Option, Some, None, slice_get, slice_set, refl, ap, sym, ◌∙◌, arith, Id, Var, Slot, Slots, Content, Named, held, id_of, next_free, next_id, taken, taken_from, freed, same_id, option_and_then}
+use Rattle.uv_alike.proofs.Names.{if◌then◌else◌, ◌≡◌, ℕ, zero, suc, ◌<◌, ◌+◌, ◌==◌, List, [], ◌∷◌, length, Bool, true, false, Option, Some, None, slice_get, slice_set, refl, ap, sym, ◌∙◌, arith, Id, Var, Slot, Slots, Content, Named, held, id_of, next_free, next_id, taken, taken_from, freed, same_id, option_and_then}
 use Rattle.std.proofs.lemmas.Bool.{cond_both, eqb-false, eqb-true}
 use Rattle.std.proofs.lemmas.Grind.{elements}
 use Rattle.std.specs.Prelude.{◌≤◌, option_map}
@@ -15,9 +15,6 @@ use Rattle.uv_alike.proofs.Kept.{IsLoose}
 
 abbrev pub id_named : List Named → Var → Option Id
 id_named ns v = (names.named ns v.0).id
-
-named_here : (ns : List Named) (v : ℕ) (m : Named) → v < length ns → names.named (slice_set ns v m) v ≡ m
-named_here ns v m l = grind (arith, elements)
 
 named_other : (ns : List Named) (v u : ℕ) (m : Named) → (u ≡ v → ⊥) → names.named (slice_set ns v m) u ≡ names.named ns u
 named_other ns v u m d = grind (arith, elements)
@@ -45,10 +42,6 @@ pub record IsThere (slots : List (Slot Content)) (id : Id) (x : Content) : Type 
 
 pub is_there : (slots : List (Slot Content)) (id : Id) (x : Content) → held slots id ≡ Some x → IsThere slots id x
 is_there slots id x e = grind arith
-
-vacant_turned : (slots : List (Slot Content)) (id : Id) (n : ℕ) (x y : Content) → held slots id ≡ Some x →
-    vacancies (slice_get (with_held slots id y) n) ≡ vacancies (slice_get slots n)
-vacant_turned slots id n x y e = (let k = is_there slots id x e in grind (arith, elements))
 
 uses_turned : (slots : List (Slot Content)) (id : Id) (n : ℕ) (x y : Content) → held slots id ≡ Some x →
     uses (slice_get (with_held slots id y) n) ≡ uses (slice_get slots n)
@@ -82,7 +75,7 @@ pub turned_agree : (count : ℕ) (ns : List Named) (a : Slots Content) (id : Id)
 turned_agree count ns a id x y e same k = record {
   bound = λ i u f. k.bound i u (sym (grind (arith, is_there, elements)) ∙ f);
   alone = λ w u i f g. k.alone w u i f (sym (grind (arith, is_there, elements)) ∙ g);
-  free = λ n. k.free n ∙ sym (vacant_turned a.slots id n x y e);
+  free = λ n. k.free n ∙ sym (grind (arith, is_there, elements));
   old = λ w i f. (let l = k.old w i f in let m = uses_turned a.slots id i.slot x y e in omega (arith, l, m));
   many = k.many;
 }
@@ -130,12 +123,6 @@ fills a id x free e = by a.free free e where
   by [] all f = fills_next a.slots a.unused id x all f
   by (n ∷ ns) all f = fills_first a.slots n a.unused ns id x all f
 
-same_var : (v u : Var) → v.0 ≡ u.0 → v ≡ u
-same_var v u e = ap (λ (n : ℕ). record { 0 = n }) e
-
-same_slot : (i id : Id) → same_id i id ≡ true → i ≡ id
-same_slot i id e = grind arith
-
 -- a name is bound to it, which was bound to nothing that is held
 pub made_agree : (count : ℕ) (ns : List Named) (a : Slots Content) (v : Var) (id : Id) (x : Content) → v.0 < count → name_in x ≡ v →
     IsLoose ns a v → next_free a ≡ Some id → Agree count ns a →
@@ -154,8 +141,7 @@ made_agree count ns a v id x less called loose next k = record {
   f = fills a id x k.free next
 
   here : (w : Var) → w.0 ≡ v.0 → id_named now w ≡ Some id
-  here w e = ap (id_named now) (same_var w v e)
-      ∙ ap (λ (m : Named). m.id) (named_here ns v.0 (record (names.named ns v.0) { id = Some id }) (let m = k.many in omega (arith, less, m)))
+  here w e = grind (arith, elements)
 
   other : (w : Var) → (w.0 ≡ v.0 → ⊥) → id_named now w ≡ id_named ns w
   other w d = ap (λ (m : Named). m.id) (named_other ns v.0 w.0 (record (names.named ns v.0) { id = Some id }) d)
@@ -167,7 +153,7 @@ made_agree count ns a v id x less called loose next k = record {
   bound : (i : Id) (u : Var) (b : Bool) → same_id i id ≡ b → (if b then Some (name_in x) else name_at a.slots i) ≡ Some u → id_named now u ≡ Some i
   bound i u true same e =
       let its : name_in x ≡ u = cc e in
-      here u (ap (λ (w : Var). w.0) (sym its ∙ called)) ∙ ap Some (sym (same_slot i id same))
+      here u (ap (λ (w : Var). w.0) (sym its ∙ called)) ∙ ap Some (sym (grind arith))
   bound i u false same e = other u (unheld i u e) ∙ k.bound i u e
 
   -- no name was bound to the new id
@@ -184,14 +170,14 @@ made_agree count ns a v id x less called loose next k = record {
     its = (let both : Some i ≡ Some id = sym e ∙ here w is in cc both)
 
     apart : (b : Bool) → same_id i id ≡ b → (if b then Some (name_in x) else name_at a.slots i) ≡ Some u → u ≡ w
-    apart true one h = (let now_called : name_in x ≡ u = cc h in sym now_called ∙ called ∙ sym (same_var w v is))
+    apart true one h = (let now_called : name_in x ≡ u = cc h in sym now_called ∙ called ∙ sym (grind arith))
     apart false one h = absurd (grind (arith, its))
   alone w u i false same e g = apart (same_id i id) refl g where
     named : id_named ns w ≡ Some i
     named = sym (other w (eqb-false w.0 v.0 same)) ∙ e
 
     apart : (b : Bool) → same_id i id ≡ b → (if b then Some (name_in x) else name_at a.slots i) ≡ Some u → u ≡ w
-    apart true its h = absurd (unnamed w (named ∙ ap Some (same_slot i id its)))
+    apart true its h = absurd (unnamed w (named ∙ ap Some (grind arith)))
     apart false its h = k.alone w u i named h
 
   old : (w : Var) (i : Id) (b : Bool) → (w.0 == v.0) ≡ b → id_named now w ≡ Some i → i.generation < uses (slice_get (taken id x a).slots i.slot)

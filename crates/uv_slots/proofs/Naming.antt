@@ -1,5 +1,5 @@
 -- Names in another order, as a change: names that are alike may change places.
-use Rattle.uv_slots.proofs.Names.{if◌then◌else◌, ◌≡◌, ◌∙◌, ℕ, zero, suc, ◌+◌, List, [], ◌∷◌, length, drop, arith, refl, ap, sym, Bool, Option, Some, None, list_any, slice_get, slice_set, nat_lt, Id, Var, Slot, Content, State, Program, Named, named, live, live_id, unbound, lines_in, CallbackLine, Event, Take, Finish, Tick, Callback, arena_size, held}
+use Rattle.uv_alike.proofs.Names.{if◌then◌else◌, ◌≡◌, ◌∙◌, ℕ, suc, ◌+◌, List, [], ◌∷◌, length, drop, arith, refl, ap, sym, Bool, Option, Some, None, list_any, slice_get, slice_set, nat_lt, Id, Var, Slot, Content, State, Program, Named, named, live, live_id, unbound, lines_in, CallbackLine, Event, Take, Finish, Tick, Callback, arena_size, held}
 use Rattle.std.specs.Prelude.{map, option_map, unwrap_or, is_some}
 use Rattle.std.proofs.lemmas.List.{drop-map}
 use Rattle.std.proofs.lemmas.Option.{slice_get-map}
@@ -13,14 +13,13 @@ use Rattle.uv_slots.proofs.Orders.{Fits, get_arranged, set_arranged}
 use Rattle.uv_slots.specs.Alike.{moved_var, moved_content, by_names, AreAlike}
 use Rattle.uv_alike.specs.Changed.{Comes, changed, changed_content, changed_live, changed_callback, changed_body, changed_event, changed_next}
 use Rattle.uv_alike.specs.Hides.{Hides, IsWhole, IsExact}
-use Rattle.uv_alike.proofs.Same.{any_same, runs_same}
+use Rattle.uv_alike.proofs.Same.{work_same, any_same, runs_same}
 use Rattle.uv_alike.proofs.Mapped.{slot_of, held_mapped, turns_mapped, finds_mapped, takes_mapped, frees_mapped, live_mapped}
 use Rattle.uv_alike.proofs.Exact.{next_exact}
 
 in_range : {X : Type 0} (xs : List X) (n : ℕ) → nat_lt n (length xs) ≡ is_some (slice_get xs n)
-in_range [] n = grind arith
-in_range (x ∷ xs) zero = grind arith
 in_range (x ∷ xs) (suc n) = grind (arith, (in_range xs n))
+in_range each e1 = grind arith
 
 module _ (o : List ℕ) where
   content_same : (x : Content) → moved_content o x ≡ changed_content (by_names o) x
@@ -69,6 +68,7 @@ module _ (o : List ℕ) where
             ∙ set_arranged o s.names v.0 (record (named s v) { id = Some x }) at;
         lines = λ kind v n. ap (λ ls. slice_get ls n) (alike.lines kind v) ∙ slice_get-map (changed_callback (by_names o)) (lines_in p kind v) n;
         main = alike.main;
+        work = work_same;
       }
 
   whole_names : (p : Program) (s : State) → AreAlike p o s → IsWhole (by_names o) p s

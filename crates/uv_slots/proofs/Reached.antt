@@ -1,16 +1,16 @@
 -- Each state that few steps lead to is tidy.
-use Rattle.uv_slots.proofs.Names.{◌≡◌, ℕ, suc, ◌+◌, ◌<◌, List, [], ◌∷◌, length, Some, None, ap, arith, Id, Var, Event, Content, Program, State, arena_size, held, unbound}
+use Rattle.uv_alike.proofs.Names.{◌≡◌, ℕ, suc, ◌+◌, ◌<◌, List, [], ◌∷◌, length, Some, ap, arith, Id, Event, Content, Program, State, arena_size, held}
 use Rattle.std.proofs.lemmas.Grind.{elements}
-use Rattle.std.specs.Prelude.{◌≤◌, option_map, replicate}
+use Rattle.std.specs.Prelude.{◌≤◌, option_map}
 use Rattle.uv_model.specs.State.{fresh}
 use Rattle.uv_model.specs.After.{after, goes_on, state_of}
 use Rattle.uv_model.specs.Next.{Next, next}
 use Rattle.uv_model.proofs.Bounded.{next_bounded}
-use Rattle.uv_model.proofs.Counting.{Counts, IsBounded, StaysBounded, slot_freed}
+use Rattle.uv_model.proofs.Counting.{IsBounded, StaysBounded, slot_freed}
 use Rattle.uv_alike.specs.Contents.{name_in}
 use Rattle.uv_slots.specs.NamedForm.{AreDeclared, IsTidy}
 use Rattle.uv_alike.proofs.Kept.{StaysKept, next_kept}
-use Rattle.uv_slots.proofs.Named.{Agree, id_named, is_there, counted_agree, turned_agree, made_agree, freed_agree}
+use Rattle.uv_slots.proofs.Named.{Agree, is_there, counted_agree, turned_agree, made_agree, freed_agree}
 
 abbrev count_of : Program → ℕ
 count_of p = length p.callbacks
@@ -54,12 +54,6 @@ goes_on_agree p n s [] declared few h k = k
 goes_on_agree p n s (e ∷ es) declared few h k = goes_on_agree p (suc n) (state_of s (next p s e)) es declared (omega (arith, few))
     (state_bounded p n s e h) (state_agree p n s e declared (omega (arith, few)) h k)
 
-unbound_all : (n : ℕ) (v : Var) → id_named (replicate n unbound) v ≡ None
-unbound_all n v = grind (arith, elements)
-
-fresh_counts : (n : ℕ) → Counts 0 (replicate n unbound)
-fresh_counts n = grind (arith, elements)
-
 agree_tidy : (count : ℕ) (s : State) → Agree count s.names s.arena → IsTidy s
 agree_tidy count s k = record {
   bound = λ id x e. k.bound id (name_in x) (ap (option_map name_in) e);
@@ -70,4 +64,4 @@ agree_tidy count s k = record {
 pub after_tidy : (p : Program) (es : List Event) → AreDeclared p → length es < (arena_size p).last_generation → IsTidy (after p es)
 unfolding after
 after_tidy p es declared few = agree_tidy (count_of p) (goes_on p (fresh p) es)
-    (goes_on_agree p 0 (fresh p) es declared (omega (arith, few)) (grind (arith, fresh_counts)) (grind (arith, unbound_all, elements)))
+    (goes_on_agree p 0 (fresh p) es declared (omega (arith, few)) (grind (arith, elements)) (grind (arith, elements)))

@@ -1,5 +1,5 @@
 -- A state whose slots and ids are others. Each id that names a slot is named anew with it, and whatever else a state has stays.
-use Rattle.uv_slots.proofs.Names.{◌≡◌, ℕ, List, Bool, Option, Some, list_any, Id, Due, Seen, Slot, Slots, Content, Named, State, Program, arena_size, same_id, held, with_held, next_free, taken, freed, Moves}
+use Rattle.uv_alike.proofs.Names.{◌≡◌, ℕ, List, Bool, Option, Some, list_any, Id, Due, Seen, Slot, Slots, Content, Named, State, Program, arena_size, same_id, held, with_held, next_free, taken, freed, Moves}
 use Rattle.std.specs.Prelude.{map, option_map}
 use Rattle.uv_ids.specs.declared.code.Answer.{Answer}
 use Rattle.uv_ids.specs.declared.code.Answer.TheVariants as answer

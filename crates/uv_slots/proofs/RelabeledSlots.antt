@@ -1,7 +1,6 @@
 -- The slots of a state that are relabeled, what its ids hold, its names, and the first timer.
-use Rattle.uv_slots.proofs.Names.{◌≡◌, List, [], ◌∷◌, Option, Some, None, refl, ap, sym, ◌∙◌, nat_le, Id, Var, Due, HandleRecord, State, named, handle, live, live_id, with_named, front, with_id, handle_in, held, Content, Named, unbound}
+use Rattle.uv_alike.proofs.Names.{◌≡◌, List, [], ◌∷◌, Option, Some, None, refl, ap, ◌∙◌, nat_le, Id, Var, Due, State, named, handle, live, live_id, front, with_id, handle_in, held, Named, unbound}
 use Rattle.std.proofs.lemmas.Option.{slice_get-map}
-use Rattle.std.proofs.lemmas.List.{map-set}
 use Rattle.std.specs.Prelude.{map, option_map, unwrap_or}
 use Rattle.uv_model.specs.Next.{first_due}
 use Rattle.uv_alike.proofs.Cases.{if_shift}
@@ -34,10 +33,6 @@ name_of o (Some n) = refl
 
 pub named_relabeled : (o : Relabel) (s : State) (v : Var) → named (relabeled o s) v ≡ relabeled_named o (named s v)
 named_relabeled o s v = simp (slice_get-map, name_of)
-
-pub with_named_relabeled : (o : Relabel) (s : State) (v : Var) (n : Named) →
-    with_named (relabeled o s) v (relabeled_named o n) ≡ relabeled o (with_named s v n)
-with_named_relabeled o s v n = ap (λ (ns : List Named). record (relabeled o s) { names = ns }) (sym (map-set (relabeled_named o) s.names v.0 n))
 
 live_id_relabeled : (o : Relabel) (s : State) (x : Option Id) → o.Fits s.arena →
     live_id (relabeled o s) (option_map o.id x) ≡ option_map (relabeled_pair o) (live_id s x)

@@ -1,5 +1,5 @@
 -- Slots and ids that are named anew are a change of the state: a step goes as it does.
-use Rattle.uv_slots.proofs.Names.{◌≡◌, ◌∙◌, ap, ap₂, sym, arith, Option, Some, None, refl, Id, Content, State, Program, Body, Place, Main, Running, Run, Seen, Event, Moves, held, named, slice_get, refl}
+use Rattle.uv_alike.proofs.Names.{◌≡◌, ◌∙◌, ap, ap₂, sym, arith, Option, Some, None, refl, Id, Content, State, Program, Body, Place, Main, Running, Run, Seen, Event, Moves, held, refl}
 use Rattle.std.specs.Prelude.{map, option_map}
 use Rattle.std.proofs.lemmas.List.{length-map, map-set}
 use Rattle.std.proofs.lemmas.Option.{slice_get-map}
@@ -9,9 +9,9 @@ use Rattle.uv_model.specs.Content.{content_keeps, content_pends, is_used}
 use Rattle.uv_model.specs.Next.{Next, Refuses, next}
 use Rattle.uv_slots.proofs.Relabel.{Relabel, CanRelabel, relabeled, relabeled_named, relabeled_line, relabeled_next}
 use Rattle.uv_slots.proofs.RelabeledSlots.{live_relabeled, named_relabeled}
-use Rattle.uv_alike.specs.Changed.{Change, changed, changed_content, changed_live, changed_body, changed_run, changed_place, changed_line, changed_next, Comes}
+use Rattle.uv_alike.specs.Changed.{Change, same, changed, changed_content, changed_live, changed_body, changed_run, changed_place, changed_line, changed_next, Comes}
 use Rattle.uv_alike.specs.Hides.{Hides, IsWhole, IsExact}
-use Rattle.uv_alike.proofs.Same.{option_same, lines_same, main_same, event_same, stage_same}
+use Rattle.uv_alike.proofs.Same.{work_same, option_same, lines_same, main_same, event_same, stage_same}
 use Rattle.uv_alike.proofs.Exact.{next_exact}
 
 abbrev pub by_relabel : Relabel → Change
@@ -30,6 +30,7 @@ by_relabel o = record {
   waits = map o.id;
   runs = map (option_map o.id);
   ends = map o.id;
+  work = same;
 }
 
 module _ (o : Relabel) where
@@ -62,8 +63,9 @@ module _ (o : Relabel) where
     waits = λ n. refl;
     known = λ v. search length-map;
     binds = λ v x e. search (named_relabeled, map-set);
-    lines = λ kind v n. lines_same (by_relabel o) (λ v. refl) _;
-    main = λ line e. main_same (by_relabel o) (λ v. refl) _;
+    lines = λ kind v n. lines_same (by_relabel o) (λ v. refl) (λ t. refl) _;
+    main = λ line e. main_same (by_relabel o) (λ v. refl) (λ t. refl) _;
+    work = work_same;
   }
 
   whole_relabel : (p : Program) (s : State) → CanRelabel o p s → IsWhole (by_relabel o) p s

@@ -1,5 +1,5 @@
 -- The order of a state's slots by its names has each of them once.
-use Rattle.uv_slots.proofs.Names.{◌≡◌, ℕ, zero, suc, ◌<◌, ◌+◌, List, [], ◌∷◌, ◌++◌, length, Option, Some, None, slice_get, refl, ap, sym, ◌∙◌, arith, Id, Var, Slot, Content, Named, State, named, unbound, held, id_of}
+use Rattle.uv_alike.proofs.Names.{◌≡◌, ℕ, zero, suc, ◌<◌, ◌+◌, List, [], ◌∷◌, ◌++◌, length, Option, Some, None, slice_get, refl, ap, sym, ◌∙◌, arith, Id, Var, Slot, Content, Named, State, named, unbound, held, id_of}
 use Rattle.std.proofs.lemmas.Option.{slice_get_past, slice_get_cases}
 use Rattle.std.specs.Prelude.{◌≤◌, option_map, option_to_list, unwrap_or}
 use Rattle.uv_slots.specs.Arranged.{times, IsOrder}
@@ -135,12 +135,8 @@ held_once s n slot x tidy e f = one_bound s.names s.arena.slots n (name_in x).0
           let its : b.content ≡ x = grind arith in
           ap (λ (u : Var). u.0) (sym same) ∙ ap (λ (y : Content). (name_in y).0) its
 
-none_held : (s : State) (n : ℕ) → ((slot : Slot Content) (x : Content) → slice_get s.arena.slots n ≡ Some slot → slot.content ≡ Some x → ⊥) →
-    times (slots_bound s.names s.arena.slots) n ≡ 0
-none_held s n none = grind (arith, none_bound, bound_by)
-
 named_once : (s : State) (n : ℕ) → IsTidy s → times (named_order s) n ≡ present (slice_get s.arena.slots n)
-named_once s n tidy = grind (arith, times_append, none_held, held_once)
+named_once s n tidy = grind (arith, times_append, none_bound, bound_by, held_once)
 
 pub tidy_whole : (s : State) → IsTidy s → IsWhole (named_order s) s.arena.slots
 tidy_whole s tidy =

@@ -10,7 +10,7 @@ use Rattle.uv_work.specs.declared.content.Content.TheVariants as content
 use Rattle.uv_model.specs.declared.place.Place.TheVariants.{Main}
 use Rattle.uv_model.specs.State.{State}
 use Rattle.uv_slots.specs.Arranged.{IsOrder, place_of, arranged_slots}
-use Rattle.uv_alike.specs.Changed.{Change, changed_callback, changed_main}
+use Rattle.uv_alike.specs.Changed.{Change, same, changed_callback, changed_main}
 
 abbrev pub moved_var : List ℕ → Var → Var
 moved_var o v = record { 0 = place_of o v.0 }
@@ -39,6 +39,7 @@ by_names o = record {
   waits = map (λ x. x);
   runs = λ rs. rs;
   ends = map (λ x. x);
+  work = same;
 }
 
 -- names that are alike where the state stands: a name has the lines of the one whose place it takes, so renamed, and the main program's

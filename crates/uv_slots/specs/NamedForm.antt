@@ -3,7 +3,6 @@
 use Rattle.std.specs.Prelude.{◌≡◌, ◌<◌, ◌++◌, ℕ, List, [], ◌∷◌, length, Option, Some, None, option_map, option_to_list, slice_get}
 use Rattle.uv_ids.specs.declared.id.Id.{Id}
 use Rattle.uv_ids.specs.declared.id.Var.{Var}
-use Rattle.uv_ids.specs.declared.seen.Seen.{Seen}
 use Rattle.uv_ids.specs.declared.seen.Site.{Site}
 use Rattle.uv_records.specs.declared.named.Named.{Named}
 use Rattle.uv_records.specs.declared.slot.Slot.{Slot}
@@ -12,9 +11,8 @@ use Rattle.uv_script.specs.Program.{Program, op_at, op_name}
 use Rattle.uv_script.specs.declared.op.Op.{Op}
 use Rattle.uv_work.specs.declared.content.Content.{Content}
 use Rattle.uv_model.specs.State.{State, named}
-use Rattle.uv_model.specs.Next.{Next, Moves}
 use Rattle.uv_alike.specs.Contents.{name_in}
-use Rattle.uv_slots.specs.Arranged.{times, arranged, arranged_line}
+use Rattle.uv_slots.specs.Arranged.{times, arranged}
 
 -- the slot of what a name is bound to, if it holds that still
 abbrev pub slot_bound : List (Slot Content) → Option Id → Option ℕ
@@ -53,14 +51,3 @@ pub record IsTidy (s : State) : Type 0 where
 -- each op of the script names a declared name
 abbrev pub AreDeclared : Program → Type 0
 AreDeclared p = (at : Site) (o : Op) (v : Var) → op_at p at ≡ Some o → op_name o ≡ Some v → v.0 < length p.callbacks
-
--- ---- steps that are the same except for the numbers of slots
-
--- this step of the other state, too, is taken, and it comes to a state with the form of `t`. The lines are the same once each is arranged by
--- the order of its own state
-pub record TakesAlike (x : Next) (s other t : State) (line : Option Seen) : Type 0 where
-  pub state : State
-  pub says : Option Seen
-  pub takes : x ≡ Moves state says
-  pub same : named_form state ≡ named_form t
-  pub same_line : option_map (arranged_line (named_order other)) says ≡ option_map (arranged_line (named_order s)) line

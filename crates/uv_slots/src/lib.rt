@@ -7,6 +7,6 @@ mod buried;
 mod laws;
 mod swapped;
 
-pub use buried::{burying_stays, names_buried, reads_buried};
-pub use laws::{named_forms, slots_arrange, takes_alike};
+pub use buried::{burying_stays, names_buried};
+pub use laws::{slots_arrange, stays_tidy};
 pub use swapped::names_change_places;

@@ -52,9 +52,7 @@ mode_of n = if n == 0 then Default else if n == 1 then Once else Nowait
 
 mode_back : (m : Mode) → mode_of (mode_number m) ≡ m
 unfolding mode_of
-mode_back Default = refl
-mode_back Once = refl
-mode_back Nowait = refl
+mode_back m = grind arith
 
 mode_tells : Tells (λ m. byte_code (mode_number m))
 mode_tells = part_tells _ mode_number (settled_back mode_number mode_of mode_back) byte_tells
@@ -64,9 +62,7 @@ callback_of n = if n == 0 then callback.Handle else if n == 1 then callback.Afte
 
 callback_back : (c : Callback) → callback_of (callback_number c) ≡ c
 unfolding callback_of
-callback_back callback.Handle = refl
-callback_back callback.After = refl
-callback_back callback.Close = refl
+callback_back c = grind arith
 
 callback_tells : Tells (λ c. byte_code (callback_number c))
 callback_tells = part_tells _ callback_number (settled_back callback_number callback_of callback_back) byte_tells
@@ -85,8 +81,7 @@ kind_tells : Tells (λ k. byte_code (kind_number k))
 kind_tells = part_tells _ kind_number (settled_back kind_number kind_of kind_back) byte_tells
 
 bit_back : (b : Bool) → (bit b == 1) ≡ b
-bit_back true = refl
-bit_back false = refl
+bit_back b = grind arith
 
 same_bit : (a b : Bool) → bit a ≡ bit b → a ≡ b
 same_bit = settled_back bit (λ n. n == 1) bit_back
@@ -141,16 +136,7 @@ run_tells = part_tells _ run_part (settled_back run_part run_of (λ r. refl))
 
 pub place_tells : Tells place_code
 unfolding byte_code
-place_tells (Main a) (Main b) x y e =
-    let rest : number_code a ++ x ≡ number_code b ++ y = cc in
-    let r = numbers_tell a b x y rest in
-    (ap Main r.0, r.1)
-place_tells (Main a) (Running b) x y e = absurd (let g : ⊥ = cc in g)
-place_tells (Running a) (Main b) x y e = absurd (let g : ⊥ = cc in g)
-place_tells (Running a) (Running b) x y e =
-    let rest : run_code a ++ x ≡ run_code b ++ y = cc in
-    let r = run_tells a b x y rest in
-    (ap Running r.0, r.1)
+place_tells each e1 x y e = grind (arith, numbers_tell, run_tells)
 
 abbrev numbers_part : Numbers → (((ℕ × ℕ) × ℕ) × Bool) × Bool
 numbers_part n = ((((n.time, n.clock), n.next_start), n.stop_flag), n.idled)
@@ -195,8 +181,7 @@ abbrev pub flags_number : Flags → ℕ
 flags_number f = bit f.0 + 2 * bit f.1 + 4 * bit f.2 + 8 * bit f.3 + 16 * bit f.4
 
 pub bit_small : (b : Bool) → bit b ≤ 1
-bit_small true = omega arith
-bit_small false = omega arith
+bit_small b = grind arith
 
 pub same_flags : (f g : Flags) → flags_number f ≡ flags_number g → f ≡ g
 same_flags f g e =
@@ -237,24 +222,10 @@ handle_tells = part_tells _ handle_part (settled_back handle_part handle_of (λ 
 pub small_named : (id : Id) (c : Calls) → id.slot < 128 → id.generation < 128 → c.handle < 128 → c.after < 128 → c.close < 128
     → named_code (record { id = Some id; calls = c }) ≡ 1 ∷ id.slot ∷ id.generation ∷ c.handle ∷ c.after ∷ c.close ∷ []
 unfolding named_code calls_code byte_code
-small_named id c slot generation handle after close =
-    rw (
-      number_small id.slot slot,
-      number_small id.generation generation,
-      number_small c.handle handle,
-      number_small c.after after,
-      number_small c.close close,
-    ) refl
+small_named id c slot generation handle after close = simp number_small
 
 pub small_handle : (n : ℕ) (h : HandleRecord) → n < 128 → h.name.0 < 128 → h.due.at < 128 → h.due.start < 128 → h.repeat < 128
     → slot_code (record { generation = n; content = Some (content.Handle h) })
     ≡ n ∷ 1 ∷ kind_number h.kind ∷ flags_of h ∷ h.name.0 ∷ h.due.at ∷ h.due.start ∷ h.repeat ∷ []
 unfolding slot_code handle_code byte_code
-small_handle n h generation name at start repeat =
-    rw (
-      number_small n generation,
-      number_small h.name.0 name,
-      number_small h.due.at at,
-      number_small h.due.start start,
-      number_small h.repeat repeat,
-    ) refl
+small_handle n h generation name at start repeat = simp number_small

@@ -17,9 +17,7 @@ use Rattle.uv_state_key.specs.Computed.{due_of, due_at, first_at, least_among}
 -- ---- when timers are due
 
 of_handle : (c : Option Content) (h : HandleRecord) → handle_in c ≡ Some h → due_of c ≡ h.due
-of_handle None h e = absurd (let f : ⊥ = cc e in f)
-of_handle (Some (content.Handle g)) h e = (let same : g ≡ h = cc e in ap (λ (x : HandleRecord). x.due) same)
-of_handle (Some (content.Request r)) h e = absurd (let f : ⊥ = cc e in f)
+of_handle each h e = grind arith
 
 timer_due : (s : State) (due : Due) (id : Id) → IsTimer s due id → due_at s id ≡ due
 timer_due s due id k = of_handle (held s.arena.slots id) k.its k.holds ∙ k.due
@@ -43,11 +41,8 @@ min_turn a b c = omega arith
 
 least_next : (s : State) (ids : List Id) (i : ℕ) (d : Id) (start : ℕ) → i < length ids →
     min (due_at s (get_or ids i d)).start (least_among s (take i ids) start) ≡ least_among s (take (suc i) ids) start
-least_next s [] i d start l = absurd (let f : ⊥ = omega (arith, l) in f)
-least_next s (id ∷ ids) zero d start l = refl
-least_next s (id ∷ ids) (suc i) d start l =
-    min_turn (due_at s (get_or ids i d)).start (due_at s id).start (least_among s (take i ids) start)
-    ∙ ap (min (due_at s id).start) (least_next s ids i d start (omega arith))
+least_next s (id ∷ ids) (suc i) d start l = simp (min_turn, (least_next s ids i d start (omega arith)))
+least_next s each e2 d start l = grind arith
 
 -- one more behind those before it
 pub least_turn : (s : State) (ids : List Id) (i : ℕ) (d : Id) (start : ℕ) → i < length ids →

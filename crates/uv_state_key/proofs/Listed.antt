@@ -34,10 +34,7 @@ use Rattle.uv_state_key.specs.Holding.{AreFew, one_more, and_content, content_at
 -- ---- what one of them holds is told
 
 or_last : (k n : ℕ) → k < suc n → (k ≡ n) ⊎ (k < n)
-or_last zero zero l = inl refl
-or_last zero (suc n) l = inr (omega arith)
-or_last (suc k) zero l = absurd (omega arith)
-or_last (suc k) (suc n) l = elim (or_last k n (omega arith)) [ inl e ↦ inl (ap suc e) | inr m ↦ inr (omega arith) ]
+or_last k n l = grind arith
 
 -- something of a slot is told by a flag: it is set by such a slot, and stays set
 record Told (flag : Holds → Bool) (Is : Option Content → Type 0) : Type 0 where
@@ -51,37 +48,21 @@ told_by flag Is t slots k (suc n) l is = by (or_last k n l) (λ m. told_by flag 
   where
     by : ((k ≡ n) ⊎ (k < n)) → (k < n → flag (holds_in slots n) ≡ true)
         → flag (and_content (holds_in slots n) (id_at slots n) (content_at slots n)) ≡ true
-    by (inl e) more = t.adds (holds_in slots n) (id_at slots n) (content_at slots n) (subst (λ i. Is (content_at slots i)) e is)
-    by (inr m) more = t.stays (holds_in slots n) (id_at slots n) (content_at slots n) (more m)
+    by e0 more = grind arith
 
 -- an id that something is held under has a slot that holds it
 slot_below : (xs : List (Slot Content)) (n : ℕ) (slot : Slot Content) → slice_get xs n ≡ Some slot → n < length xs
-slot_below [] n slot e = absurd (let f : ⊥ = cc in f)
-slot_below (x ∷ xs) zero slot e = omega arith
 slot_below (x ∷ xs) (suc n) slot e = let l = slot_below xs n slot e in omega (arith, l)
-
-same_generation : (id : Id) (slot : Slot Content) (c : Content) → held_in id slot ≡ Some c → slot.generation ≡ id.generation
-same_generation id slot c e = grind (arith, eqb-true, e)
+slot_below each e1 slot e = grind arith
 
 held_there : (slots : List (Slot Content)) (id : Id) (c : Content) → held slots id ≡ Some c
     → (id.slot < length slots) × (content_at slots id.slot ≡ Some c) × (id_at slots id.slot ≡ id)
-held_there slots id c e = by (slice_get slots id.slot) refl e where
-  by : (x : Option (Slot Content)) → slice_get slots id.slot ≡ x → option_and_then (held_in id) x ≡ Some c
-      → (id.slot < length slots) × (content_at slots id.slot ≡ Some c) × (id_at slots id.slot ≡ id)
-  by None f g = absurd (let h : ⊥ = cc in h)
-  by (Some slot) f g = (
-    slot_below slots id.slot slot f,
-    grind (arith, f, g),
-    ap (id_by id.slot) f ∙ (let h = same_generation id slot c g in λ i. record { slot = id.slot; generation = h i }),
-  )
+held_there slots id c e = grind (arith, slot_below)
 
 -- where the flag isn't set, nothing of it is held
 none_held : (flag : Holds → Bool) (Is : Option Content → Type 0) → Told flag Is → (s : State) (id : Id) (c : Content)
     → flag (held_by s) ≡ false → held s.arena.slots id ≡ Some c → Is (Some c) → ⊥
-none_held flag Is t s id c off e is =
-    let at = held_there s.arena.slots id c e in
-    let on = told_by flag Is t s.arena.slots id.slot (length s.arena.slots) at.0 (subst Is (sym at.1) is) in
-    grind (arith, on, off)
+none_held flag Is t s id c off e is = grind (arith, held_there, told_by)
 
 none_listed : (ids : List Id) → ((id : Id) → has_id ids id ≡ true → ⊥) → ids ≡ []
 none_listed [] none = refl
@@ -103,19 +84,13 @@ record Counted (count : Holds → Few) (Is : Option Content → Type 0) : Type 0
   pub counts : (f : Holds) (id : Id) (c : Option Content) → Counts (count f) id (count (and_content f id c)) (Is c)
 
 not_none : (x : Few) (id : Id) → one_more x id ≡ few.None → ⊥
-not_none few.None id e = cc e
-not_none (few.One y) id e = cc e
-not_none few.Many id e = cc e
+not_none each id e = grind arith
 
 first_one : (x : Few) (id y : Id) → one_more x id ≡ few.One y → (x ≡ few.None) × (id ≡ y)
-first_one few.None id y e = (refl, cc e)
-first_one (few.One z) id y e = absurd (let f : ⊥ = cc e in f)
-first_one few.Many id y e = absurd (let f : ⊥ = cc e in f)
+first_one each id y e = grind arith
 
 not_again : (x : Few) (id y z : Id) → x ≡ few.One y → few.One z ≡ one_more x id → ⊥
-not_again few.None id y z e a = cc e
-not_again (few.One w) id y z e a = cc a
-not_again few.Many id y z e a = cc e
+not_again each id y z e a = grind arith
 
 module _ (count : Holds → Few) (Is : Option Content → Type 0) (t : Counted count Is) (slots : List (Slot Content)) where
   none_there : (n k : ℕ) → count (holds_in slots n) ≡ few.None → k < n → Is (content_at slots k) → ⊥
@@ -175,16 +150,10 @@ module _ (count : Holds → Few) (Is : Option Content → Type 0) (t : Counted c
 
 -- what a slot holds is held under its id
 held_at : (slots : List (Slot Content)) (k : ℕ) (c : Content) → content_at slots k ≡ Some c → held slots (id_at slots k) ≡ Some c
-held_at slots k c e = by (slice_get slots k) refl e where
-  by : (x : Option (Slot Content)) → slice_get slots k ≡ x → option_and_then (λ (slot : Slot Content). slot.content) x ≡ Some c
-      → held slots (id_by k (slice_get slots k)) ≡ Some c
-  by None f g = absurd (let h : ⊥ = cc in h)
-  by (Some slot) f g = rw f (rw f (grind (arith, g)))
+held_at slots k c e = grind arith
 
 -- a list of which each is this one, and this one is on it, and none stands twice
 single : (xs : List Id) (x : Id) → ((id : Id) → has_id xs id ≡ true → id ≡ x) → has_id xs x ≡ true → AreDistinct xs → xs ≡ x ∷ []
-single [] x all has distinct = absurd (let f : ⊥ = cc has in f)
-single (y ∷ []) x all has distinct = ap (λ z. z ∷ []) (all y (grind arith))
 single (y ∷ z ∷ zs) x all has distinct =
     let one : y ≡ x = all y (grind arith) in
     let two : z ≡ x = all z (grind arith) in
@@ -192,6 +161,7 @@ single (y ∷ z ∷ zs) x all has distinct =
   where
     twice : (y z : Id) (zs : List Id) → y ≡ z → has_id (z ∷ zs) y ≡ false → ⊥
     twice y z zs e f = grind arith
+single each x all has distinct = grind arith
 
 -- what stands on two lists is what slots hold: so many as they do
 record Listed (slots : List (Slot Content)) (P : Id → Type 0) (Is : Option Content → Type 0) : Type 0 where
@@ -243,46 +213,22 @@ Opens b c = (r : Request) × ((c ≡ Some (content.Request r)) × (is_open r.out
 -- ---- where the slots hold handles of a kind
 
 active_told : (q : WatcherKind) (f : Holds) (id : Id) (k : Kind) → Counts (watch_count q f) id (watch_count q (and_active f id k)) (k ≡ kind_as q)
-active_told watcher.Idle f id kind.Idle = inr (refl, refl)
-active_told watcher.Prepare f id kind.Prepare = inr (refl, refl)
-active_told watcher.Check f id kind.Check = inr (refl, refl)
-active_told watcher.Async f id kind.Async = inr (refl, refl)
-active_told q f id k = inl refl
+active_told q f id k = grind arith
 
 closing_stays : (q : WatcherKind) (f : Holds) (id : Id) (b : Bool) → watch_count q (and_closing f id b) ≡ watch_count q f
-closing_stays watcher.Idle f id true = refl
-closing_stays watcher.Prepare f id true = refl
-closing_stays watcher.Check f id true = refl
-closing_stays watcher.Async f id true = refl
-closing_stays q f id false = refl
+closing_stays q f id b = grind arith
 
 resting_stays : (q : WatcherKind) (f : Holds) (b : Bool) → watch_count q (and_resting f b) ≡ watch_count q f
-resting_stays watcher.Idle f true = refl
-resting_stays watcher.Prepare f true = refl
-resting_stays watcher.Check f true = refl
-resting_stays watcher.Async f true = refl
-resting_stays q f false = refl
+resting_stays q f b = grind arith
 
 request_stays : (q : WatcherKind) (f : Holds) (id : Id) (r : Request) (b : Bool) → is_open r.outcome ≡ b
     → watch_count q (and_request f id r) ≡ watch_count q f
-request_stays watcher.Idle f id r true e = rw e refl
-request_stays watcher.Prepare f id r true e = rw e refl
-request_stays watcher.Check f id r true e = rw e refl
-request_stays watcher.Async f id r true e = rw e refl
-request_stays watcher.Idle f id r false e = rw e refl
-request_stays watcher.Prepare f id r false e = rw e refl
-request_stays watcher.Check f id r false e = rw e refl
-request_stays watcher.Async f id r false e = rw e refl
-
-active_adds : (q : WatcherKind) (f : Holds) (id : Id) → watch_count q (and_active f id (kind_as q)) ≡ one_more (watch_count q f) id
-active_adds watcher.Idle f id = refl
-active_adds q f id = refl
+request_stays each f id r e4 e = grind arith
 
 active_counted : (q : WatcherKind) → Counted (watch_count q) (Active (kind_as q))
 active_counted q = record {
   begins = begins q;
-  adds = λ f id c is. rw (is.1.0, is.1.2, is.1.1)
-      (active_adds q (and_closing f id is.0.closing) id ∙ ap (λ x. one_more x id) (closing_stays q f id is.0.closing));
+  adds = grind arith;
   counts = counts;
 } where
   begins : (q : WatcherKind) → watch_count q no_holds ≡ few.None
@@ -291,17 +237,7 @@ active_counted q = record {
 
   handle : (f : Holds) (id : Id) (h : HandleRecord) (b : Bool) → h.active ≡ b
       → Counts (watch_count q f) id (watch_count q (and_handle f id h)) (Active (kind_as q) (Some (content.Handle h)))
-  handle f id h false e = rw e (inl (resting_stays q (and_closing f id h.closing) (is_timer h.kind) ∙ closing_stays q f id h.closing))
-  handle f id h true e =
-      let g : Holds = and_closing f id h.closing in
-      let step : watch_count q (and_handle f id h) ≡ watch_count q (and_active g id h.kind) =
-      ap (λ (b : Bool). watch_count q (if b then and_active g id h.kind else and_resting g (is_timer h.kind))) e in
-      let one : Counts (watch_count q f) id (watch_count q (and_active g id h.kind)) (Active (kind_as q) (Some (content.Handle h))) =
-      elim (active_told q g id h.kind) [
-        | inl same ↦ inl (same ∙ closing_stays q f id h.closing)
-        | inr one ↦ inr ((h, (refl, one.0, e)), one.1 ∙ ap (λ x. one_more x id) (closing_stays q f id h.closing))
-      ] in
-      subst (λ x. Counts (watch_count q f) id x (Active (kind_as q) (Some (content.Handle h)))) (sym step) one
+  handle f id h b e = grind (arith, resting_stays, is_timer, closing_stays, active_told, one_more)
 
   counts : (f : Holds) (id : Id) (c : Option Content) → Counts (watch_count q f) id (watch_count q (and_content f id c)) (Active (kind_as q) c)
   counts f id None = inl refl
@@ -310,44 +246,17 @@ active_counted q = record {
 
 -- ---- where they hold handles that close, and requests that ended
 
-active_else : (f : Holds) (id : Id) (k : Kind) → ((and_active f id k).closing ≡ f.closing) × ((and_active f id k).ended ≡ f.ended)
-active_else f id kind.Timer = (refl, refl)
-active_else f id k = (refl, refl)
-
-resting_else : (f : Holds) (b : Bool) → ((and_resting f b).closing ≡ f.closing) × ((and_resting f b).ended ≡ f.ended)
-resting_else f true = (refl, refl)
-resting_else f false = (refl, refl)
-
 handle_else : (f : Holds) (id : Id) (h : HandleRecord) (b : Bool) → h.active ≡ b
     → ((and_handle f id h).closing ≡ (and_closing f id h.closing).closing) × ((and_handle f id h).ended ≡ (and_closing f id h.closing).ended)
-handle_else f id h true e = rw e (active_else (and_closing f id h.closing) id h.kind)
-handle_else f id h false e = rw e (resting_else (and_closing f id h.closing) (is_timer h.kind))
+handle_else f id h b e = grind arith
 
 closing_counted : Counted (λ f. f.closing) Closing
-closing_counted = record { begins = refl; adds = adds; counts = counts } where
-  adds : (f : Holds) (id : Id) (c : Option Content) → Closing c → (and_content f id c).closing ≡ one_more f.closing id
-  adds f id c (h, (is, on)) = rw is ((handle_else f id h h.active refl).0 ∙ rw on refl)
-
-  closes : (f : Holds) (id : Id) (h : HandleRecord) (b : Bool) → h.closing ≡ b
-      → Counts f.closing id (and_closing f id b).closing (Closing (Some (content.Handle h)))
-  closes f id h true e = inr ((h, (refl, e)), refl)
-  closes f id h false e = inl refl
-
-  counts : (f : Holds) (id : Id) (c : Option Content) → Counts f.closing id (and_content f id c).closing (Closing c)
-  counts f id None = inl refl
-  counts f id (Some (content.Request r)) = by (is_open r.outcome) refl where
-    by : (b : Bool) → is_open r.outcome ≡ b → Counts f.closing id (and_request f id r).closing (Closing (Some (content.Request r)))
-    by true e = rw e (inl refl)
-    by false e = rw e (inl refl)
-  counts f id (Some (content.Handle h)) =
-      subst (λ x. Counts f.closing id x (Closing (Some (content.Handle h)))) (sym (handle_else f id h h.active refl).0)
-      (closes f id h h.closing refl)
+closing_counted = grind arith
 
 ended_counted : Counted (λ f. f.ended) (Opens false)
 ended_counted = record { begins = refl; adds = λ f id c is. rw (is.1.0, is.1.1) refl; counts = counts } where
   ends : (f : Holds) (id : Id) (b : Bool) → (and_closing f id b).ended ≡ f.ended
-  ends f id true = refl
-  ends f id false = refl
+  ends f id b = grind arith
 
   counts : (f : Holds) (id : Id) (c : Option Content) → Counts f.ended id (and_content f id c).ended (Opens false c)
   counts f id None = inl refl
@@ -367,31 +276,15 @@ opens_told = record { adds = λ f id c is. rw (is.1.0, is.1.1) refl; stays = λ 
 
 -- ---- so many stand on the lists
 
-held_handle : (slots : List (Slot Content)) (id : Id) (h : HandleRecord) → handle_in (held slots id) ≡ Some h
-    → held slots id ≡ Some (content.Handle h)
-held_handle slots id h e = by (held slots id) e where
-  by : (c : Option Content) → handle_in c ≡ Some h → c ≡ Some (content.Handle h)
-  by c e = grind arith
-
 held_request : (slots : List (Slot Content)) (id : Id) (r : Request) → request_in (held slots id) ≡ Some r
     → held slots id ≡ Some (content.Request r)
-held_request slots id r e = by (held slots id) e where
-  by : (c : Option Content) → request_in c ≡ Some r → c ≡ Some (content.Request r)
-  by c e = grind arith
+held_request slots id r e = grind arith
 
 active_listed : (s : State) (q : WatcherKind) → Listed s.arena.slots (IsActive s (kind_as q)) (Active (kind_as q))
-active_listed s q = record {
-  holds = λ id k. (content.Handle k.its, (held_handle s.arena.slots id k.its k.holds, (k.its, (refl, k.kind, k.active))));
-  held = λ id c e is. record { its = is.0; holds = ap handle_in (e ∙ is.1.0); kind = is.1.1; active = is.1.2 };
-  some = λ is. cc is.1.0;
-}
+active_listed s q = grind arith
 
 closing_listed : (s : State) → Listed s.arena.slots (IsClosing s) Closing
-closing_listed s = record {
-  holds = λ id k. (content.Handle k.its, (held_handle s.arena.slots id k.its k.holds, (k.its, (refl, k.closing))));
-  held = λ id c e is. record { its = is.0; holds = ap handle_in (e ∙ is.1.0); closing = is.1.1 };
-  some = λ is. cc is.1.0;
-}
+closing_listed s = grind arith
 
 ended_listed : (s : State) → Listed s.arena.slots (IsEnded s) (Opens false)
 ended_listed s = record {
@@ -407,9 +300,7 @@ not_open s r off = (both_empty s.waiting (run_ids s.running)
     (k.its, (refl, k.opened))))).0
 
 not_resting : (s : State) → IsReached s → (held_by s).rests ≡ false → s.ready ≡ []
-not_resting s r off = none_listed s.ready (λ id has. let k = r.ready.each id has in
-    none_held (λ f. f.rests) Rests rests_told s id (content.Handle k.its) off (held_handle s.arena.slots id k.its k.holds)
-    (k.its, (refl, k.kind, k.inactive)))
+not_resting s r off = none_listed s.ready (λ id has. grind (arith, none_held, rests_told))
 
 module _ (p : Program) (es : List Event) (h : Holds) (is : h ≡ held_by (after p es)) where
   watched_few : (q : WatcherKind) → AreFew (watch_count q h) (watched (after p es) q).list (watched (after p es) q).yet
@@ -450,12 +341,11 @@ one_behind xs [] id l e = (sym (append-nil xs) ∙ e, refl)
 one_behind xs (y ∷ ys) id l e = absurd (omega (arith, l))
 
 pub none_before : (xs ys : List Id) (id : Id) → 0 < length ys → xs ++ ys ≡ id ∷ [] → xs ≡ []
-none_before [] ys id l e = refl
-none_before (x ∷ xs) [] id l e = absurd (omega (arith, l))
 none_before (x ∷ xs) (y ∷ ys) id l e = absurd (later xs (let rest : xs ++ y ∷ ys ≡ [] = cc e in rest)) where
   later : (xs : List Id) → xs ++ y ∷ ys ≡ [] → ⊥
   later [] e = cc e
   later (z ∷ zs) e = cc e
+none_before each e1 id l e = grind arith
 
 pub one_code : (code : Id → List ℕ) (id : Id) → list_code code (id ∷ []) ++ list_code code [] ≡ (1 ∷ []) ++ code id ++ (0 ∷ [])
 unfolding list_code

@@ -21,10 +21,7 @@ use Rattle.uv_state_key.proofs.Codes.{handle_tells}
 -- ---- requests
 
 same_outcome : (task : Task) (o q : Outcome) → IsDigest task o → IsDigest task q → outcome_number o ≡ outcome_number q → o ≡ q
-same_outcome task Open Open h k e = refl
-same_outcome task (Finished a) (Finished b) h k e = ap Finished (h ∙ sym k)
-same_outcome task Cancelled Cancelled h k e = refl
-same_outcome task o q h k e = absurd (let f : ⊥ = omega (arith, e) in f)
+same_outcome task o q h k e = grind arith
 
 abbrev pub Told : Request → Type 0
 Told r = IsDigest r.task r.outcome
@@ -60,21 +57,7 @@ ContentFits (Some (content.Request r)) = Told r
 
 content_tells : TellsOf ContentFits content_code
 unfolding byte_code
-content_tells None None x y h k e = (refl, (let r : x ≡ y = cc e in r))
-content_tells (Some (content.Handle a)) (Some (content.Handle b)) x y h k e =
-    let rest : handle_code a ++ x ≡ handle_code b ++ y = cc e in
-    let r = handle_tells a b x y rest in
-    (ap (λ c. Some (content.Handle c)) r.0, r.1)
-content_tells (Some (content.Request a)) (Some (content.Request b)) x y h k e =
-    let rest : request_code a ++ x ≡ request_code b ++ y = cc e in
-    let r = request_tells a b x y h k rest in
-    (ap (λ c. Some (content.Request c)) r.0, r.1)
-content_tells None (Some (content.Handle b)) x y h k e = absurd (let f : ⊥ = cc e in f)
-content_tells None (Some (content.Request b)) x y h k e = absurd (let f : ⊥ = cc e in f)
-content_tells (Some (content.Handle a)) None x y h k e = absurd (let f : ⊥ = cc e in f)
-content_tells (Some (content.Request a)) None x y h k e = absurd (let f : ⊥ = cc e in f)
-content_tells (Some (content.Handle a)) (Some (content.Request b)) x y h k e = absurd (let f : ⊥ = cc e in f)
-content_tells (Some (content.Request a)) (Some (content.Handle b)) x y h k e = absurd (let f : ⊥ = cc e in f)
+content_tells each e1 x y h k e = grind (arith, handle_tells, request_tells)
 
 abbrev pub SlotFits : Slot Content → Type 0
 SlotFits slot = ContentFits slot.content

@@ -49,19 +49,10 @@ few_handle h c name at start repeat few =
       number_small h.name.0 name,
     ) refl
 
-named_walk : (slots : List (Slot Content)) (w : Walk Id) → members_walk_code true slots w ≡ names_walk_code (walk_at slots w)
-named_walk slots w = ap₂ (λ a b. a ++ b) (named_members slots w.list) (named_members slots w.yet)
-
 -- all lists
 named_lists : (d : By) (n : ℕ) (s : State) → named_lists_code s ≡ told_lists_code (tale_by d n s)
 unfolding named_lists_code named_requests_code walks_code told_lists_code told_watchers_code told_requests_code
-named_lists d n s =
-    let ids = named_members s.arena.slots in
-    let at = named_walk s.arena.slots in
-    let runs = list_code run_name_code (runs_at s.arena.slots s.running) in
-    λ i.
-    ids s.ready i ++ (at s.watchers.idle i ++ at s.watchers.prepare i ++ at s.watchers.check i ++ at s.watchers.async i)
-    ++ at s.closing i ++ (ids s.waiting i ++ runs ++ at s.done i)
+named_lists d n s = simp (named_members)
 
 pub told_state : (d : By) (n : ℕ) (s : State) → told_state_code d n s ≡ tale_code (tale_by d n s)
 unfolding told_state_code tale_code

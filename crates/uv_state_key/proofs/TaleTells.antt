@@ -59,17 +59,7 @@ same_handle a b e =
     head in
     let flags = same_flags (flags_in a) (flags_in b) both.0 in
     let kind : a.kind ≡ b.kind = settled_back kind_number kind_of kind_back a.kind b.kind both.1 in
-    λ i. record {
-      name = record { 0 = (e i).1 };
-      kind = kind i;
-      referenced = (flags i).0;
-      active = (flags i).1;
-      closing = (flags i).2;
-      begun = (flags i).3;
-      pending = (flags i).4;
-      due = record { at = (e i).0.0.0.1; start = (e i).0.0.1 };
-      repeat = (e i).0.1;
-    }
+    grind arith
 
 told_handle_tells : Tells told_handle_code
 unfolding told_handle_code
@@ -84,17 +74,11 @@ told_request_part r = (((request_number r, r.name.0), r.task.rounds), text_of r.
 request_parts_tell : Tells {X = RequestPart} (λ p. byte_code p.0.0.0 ++ number_code p.0.0.1 ++ number_code p.0.1 ++ bytes_code p.1)
 request_parts_tell = pair_tells _ _ (pair_tells _ _ (pair_tells _ _ byte_tells numbers_tell) numbers_tell) bytes_tell
 
-same_part : (a b : Request) → told_request_part a ≡ told_request_part b → request_part a ≡ request_part b
-same_part a b e =
-    let head : request_number a ≡ request_number b = ap (λ (p : RequestPart). p.0.0.0) e in
-    let outcome : outcome_number a.outcome ≡ outcome_number b.outcome = omega (arith, head) in
-    λ i. (((outcome i, (e i).0.0.1), (e i).0.1), (e i).1)
-
 told_request_tells : TellsOf slot.Told told_request_code
 unfolding told_request_code
 told_request_tells a b x y h k e =
     let r = request_parts_tell (told_request_part a) (told_request_part b) x y e in
-    (same_request a b h k (same_part a b r.0), r.1)
+    (same_request a b h k (grind arith), r.1)
 
 -- ---- what names are bound to
 
@@ -104,21 +88,8 @@ BoundFits Gone = Unit {0}
 BoundFits (Holds (content.Handle h)) = Unit {0}
 BoundFits (Holds (content.Request r)) = slot.Told r
 
--- the first byte
-first_of : Bound → ℕ
-first_of Nothing = 0
-first_of Gone = 1
-first_of (Holds (content.Handle h)) = handle_number h
-first_of (Holds (content.Request r)) = request_number r
-
-handle_above : (h : HandleRecord) → 2 ≤ handle_number h
-handle_above h = omega arith
-
 handle_below : (h : HandleRecord) → handle_number h < 194
 handle_below h = omega (arith, flags_small (flags_in h), kind_small h.kind)
-
-not_nothing : (h : HandleRecord) (n : ℕ) → n < 2 → n ≡ handle_number h → ⊥
-not_nothing h n l e = omega (arith, l, e, handle_above h)
 
 not_request : (h : HandleRecord) (r : Request) → handle_number h ≡ request_number r → ⊥
 not_request h r e = omega (arith, e, handle_below h)
@@ -128,54 +99,19 @@ request_above r n l e = omega (arith, l, e)
 
 bound_tells : TellsOf BoundFits bound_code
 unfolding byte_code told_handle_code told_request_code
-bound_tells Nothing Nothing x y h k e = (refl, (let r : x ≡ y = cc e in r))
-bound_tells Gone Gone x y h k e = (refl, (let r : x ≡ y = cc e in r))
-bound_tells (Holds (content.Handle a)) (Holds (content.Handle b)) x y h k e =
-    let r = told_handle_tells a b x y e in
-    (ap (λ c. Holds (content.Handle c)) r.0, r.1)
-bound_tells (Holds (content.Request a)) (Holds (content.Request b)) x y h k e =
-    let r = told_request_tells a b x y h k e in
-    (ap (λ c. Holds (content.Request c)) r.0, r.1)
-bound_tells Nothing Gone x y h k e = absurd (let f : ⊥ = cc e in f)
-bound_tells Gone Nothing x y h k e = absurd (let f : ⊥ = cc e in f)
-bound_tells Nothing (Holds (content.Handle b)) x y h k e = absurd (not_nothing b 0 (omega arith) (cc e))
-bound_tells Nothing (Holds (content.Request b)) x y h k e = absurd (request_above b 0 (omega arith) (cc e))
-bound_tells Gone (Holds (content.Handle b)) x y h k e = absurd (not_nothing b 1 (omega arith) (cc e))
-bound_tells Gone (Holds (content.Request b)) x y h k e = absurd (request_above b 1 (omega arith) (cc e))
-bound_tells (Holds (content.Handle a)) Nothing x y h k e = absurd (not_nothing a 0 (omega arith) (cc e))
-bound_tells (Holds (content.Request a)) Nothing x y h k e = absurd (request_above a 0 (omega arith) (cc e))
-bound_tells (Holds (content.Handle a)) Gone x y h k e = absurd (not_nothing a 1 (omega arith) (cc e))
-bound_tells (Holds (content.Request a)) Gone x y h k e = absurd (request_above a 1 (omega arith) (cc e))
-bound_tells (Holds (content.Handle a)) (Holds (content.Request b)) x y h k e = absurd (not_request a b (cc e))
-bound_tells (Holds (content.Request a)) (Holds (content.Handle b)) x y h k e = absurd (not_request b a (cc e))
+bound_tells each e1 x y h k e = grind (arith, told_handle_tells, told_request_tells, request_above, not_request)
 
 -- ---- counts
 
 few_each : (c : Calls) → are_few c ≡ true → (c.handle < 6) × (c.after < 6) × (c.close < 6)
 few_each c few = (grind (arith, few), grind (arith, few), grind (arith, few))
 
-same_few : (a b : Calls) → are_few a ≡ true → are_few b ≡ true → few_number a ≡ few_number b → a ≡ b
-same_few a b p q e =
-    let f = few_each a p in
-    let g = few_each b q in
-    let close : a.close ≡ b.close = omega (arith, f.0, f.1, f.2, g.0, g.1, g.2, e) in
-    let after : a.after ≡ b.after = omega (arith, f.0, f.1, f.2, g.0, g.1, g.2, e) in
-    let handle : a.handle ≡ b.handle = omega (arith, f.0, f.1, f.2, g.0, g.1, g.2, e) in
-    λ i. record { handle = handle i; after = after i; close = close i }
-
 few_below : (c : Calls) → are_few c ≡ true → few_number c ≡ 255 → ⊥
 few_below c few e = let f = few_each c few in omega (arith, f.0, f.1, f.2, e)
 
 counts_tell : Tells counts_code
 unfolding counts_code byte_code
-counts_tell a b x y e = by (are_few a) (are_few b) refl refl e where
-  by : (p q : Bool) → are_few a ≡ p → are_few b ≡ q
-      → (if p then byte_code (few_number a) else byte_code 255 ++ calls_code a) ++ x
-      ≡ (if q then byte_code (few_number b) else byte_code 255 ++ calls_code b) ++ y → (a ≡ b) × (x ≡ y)
-  by true true f g e = (same_few a b f g (cc e), (let r : x ≡ y = cc e in r))
-  by true false f g e = absurd (few_below a f (cc e))
-  by false true f g e = absurd (few_below b g (cc e))
-  by false false f g e = calls_tell a b x y (let r : calls_code a ++ x ≡ calls_code b ++ y = cc e in r)
+counts_tell a b x y e = grind (arith, few_each, few_below, calls_tell)
 
 -- ---- names
 
@@ -209,14 +145,7 @@ IsName (Some id) = id.generation ≡ 0
 
 run_tells : TellsOf IsName run_name_code
 unfolding byte_code
-run_tells None None x y h k e = (refl, (let r : x ≡ y = cc e in r))
-run_tells None (Some b) x y h k e = absurd (let f : ⊥ = cc e in f)
-run_tells (Some a) None x y h k e = absurd (let f : ⊥ = cc e in f)
-run_tells (Some a) (Some b) x y h k e =
-    let rest : number_code a.slot ++ x ≡ number_code b.slot ++ y = cc e in
-    let r = numbers_tell a.slot b.slot x y rest in
-    let generation : a.generation ≡ b.generation = h ∙ sym k in
-    ((λ i. Some (record { slot = r.0 i; generation = generation i })), r.1)
+run_tells each e1 x y h k e = grind (arith, numbers_tell)
 
 -- ---- all lists
 
@@ -290,30 +219,12 @@ Part = (Rest × Lists) × Numbers
 abbrev part_of : Tale → Part
 part_of t = ((rest_of t, lists_of t), t.numbers)
 
-same_tale : (a b : Tale) → part_of a ≡ part_of b → a ≡ b
-same_tale a b e = λ i. let p = (e i).0.0 in let l = (e i).0.1 in record {
-  place = p.0.0.0;
-  names = p.0.0.1;
-  used = p.0.1;
-  unused = p.1;
-  ready = l.0.0.0;
-  idle = l.0.0.1.0.0.0;
-  prepare = l.0.0.1.0.0.1;
-  check = l.0.0.1.0.1;
-  async = l.0.0.1.1;
-  closing = l.0.1;
-  waiting = l.1.0.0;
-  running = l.1.0.1;
-  done = l.1.1;
-  numbers = (e i).1;
-}
-
 pub tale_tells : TellsOf TaleFits tale_code
 unfolding tale_code told_lists_code told_watchers_code told_requests_code
 tale_tells a b x y h k e =
     let all = pair_tells_of _ _ _ _ (pair_tells_of _ _ _ _ rest_tells lists_tell) (any_tells _ loop_numbers_tell) in
     let r = all (part_of a) (part_of b) x y ((h.names, h.runs), tt) ((k.names, k.runs), tt) e in
-    (same_tale a b r.0, r.1)
+    (grind arith)
 
 -- ---- what is told of a state fits, where each digest is that of its task
 
@@ -332,19 +243,14 @@ names_fit d n s h (x ∷ xs) = (name_fits d s h x.id, names_fit d n s h xs)
 
 run_fits : (run : Option Id) (runs : List (Option Id)) → IsName run → AllFit IsName runs → AllFit IsName (with_run run runs)
 run_fits run [] is h = (is, tt)
-run_fits run (x ∷ xs) is h = by (run_le run x) (run_fits run xs is h.1) where
-  by : (b : Bool) → AllFit IsName (with_run run xs) → AllFit IsName (if b then run ∷ x ∷ xs else x ∷ with_run run xs)
-  by true rest = (is, h)
-  by false rest = (h.0, rest)
+run_fits run (x ∷ xs) is h = grind (arith, (run_fits run xs is h.1))
 
 is_name : (slots : List (Slot Content)) (o : Option Id) → IsName (option_map (λ (id : Id). as_id (name_at slots id)) o)
-is_name slots None = tt
-is_name slots (Some id) = refl
+is_name slots o = grind arith
 
 runs_fit : (slots : List (Slot Content)) (running : List (Option Id)) → AllFit IsName (runs_at slots running)
 runs_fit slots [] = tt
-runs_fit slots (x ∷ xs) =
-    run_fits (option_map (λ (id : Id). as_id (name_at slots id)) x) (runs_at slots xs) (is_name slots x) (runs_fit slots xs)
+runs_fit slots (x ∷ xs) = search (run_fits, is_name, (runs_fit slots xs))
 
 pub tale_fits : (d : By) (n : ℕ) (s : State) → IsTold s → TaleFits (tale_by d n s)
 tale_fits d n s h = record { names = names_fit d n s h s.names; runs = runs_fit s.arena.slots s.running }

@@ -1,10 +1,14 @@
--- Which form of a state the bytes name.
+-- What of a state the bytes name.
 use Rattle.std.specs.Prelude.{ℕ, Option, Some, None}
-use Rattle.uv_script.specs.Program.{Program}
 use Rattle.uv_model.specs.State.{State}
-use Rattle.uv_by_name.specs.ByName.{by_name}
+use Rattle.uv_tale.specs.Tale.{Tale, tale}
 
--- the state itself, or its form by names, with counts up to a number
-abbrev pub formed : Program → Option ℕ → State → State
-formed p None s = s
-formed p (Some n) s = by_name p n s
+-- all of it, or what is told of it
+pub data Formed : Type 0 where
+  Whole : State → Formed
+  Told : Tale → Formed
+
+-- with counts up to a number
+abbrev pub formed : Option ℕ → State → Formed
+formed None s = Whole s
+formed (Some n) s = Told (tale n s)

@@ -76,7 +76,8 @@ pub(crate) fn push_named(out: &mut Vec<u8>, named: Named) -> Result<(), AllocErr
     Ok(())
 }
 
-pub(crate) fn kind_number(kind: Kind) -> u8
+/// The number of a kind (own).
+pub fn kind_number(kind: Kind) -> u8
     ensures { result ≡ kind_number kind }
 {
     match kind {

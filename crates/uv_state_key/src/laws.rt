@@ -7,7 +7,7 @@ ghost use Rattle.uv_model.specs.State.{State};
 ghost use Rattle.uv_state_key.specs.Formed.{formed};
 ghost use Rattle.uv_state_key.specs.Key.{state_code};
 ghost use Rattle.uv_state_key.specs.TaleKey.{key_code};
-ghost use Rattle.uv_state_key.specs.Told.{IsToldIn};
+ghost use Rattle.uv_state_key.specs.Told.{IsTold};
 
 /// For every script and all lists of steps: where the bytes of two states that the steps lead to are equal, the states are, whatever
 /// follows the bytes. It does nothing, and is called for its clause.
@@ -16,9 +16,9 @@ pub fn keys_tell()
         → (after p es ≡ after p fs) × (x ≡ y) }
 {}
 
-/// The same of the forms of two states, which are equal then, and not the states themselves: of their forms by names, where counts go up to
-/// a number. It does nothing, and is called for its clause.
+/// The same of what is told of two states, which is equal then, and not the states themselves, where counts go up to a number. It does
+/// nothing, and is called for its clause.
 pub fn forms_tell()
-    ensures { (p : Program) (most : Option ℕ) (s t : State) (x y : List ℕ) → IsToldIn most p s → IsToldIn most p t
-        → key_code most s ++ x ≡ key_code most t ++ y → (formed p most s ≡ formed p most t) × (x ≡ y) }
+    ensures { (most : Option ℕ) (s t : State) (x y : List ℕ) → IsTold s → IsTold t → key_code most s ++ x ≡ key_code most t ++ y
+        → (formed most s ≡ formed most t) × (x ≡ y) }
 {}

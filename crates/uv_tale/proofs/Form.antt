@@ -1,33 +1,31 @@
 -- The form of a state by its names is made from its tale.
-use Rattle.std.proofs.Common.{◌≡◌, ℕ, ◌++◌, List, [], ◌∷◌, Option, Some, None, refl, ap, sym, ◌∙◌}
-use Rattle.std.specs.Prelude.{map, option_map, option_to_list, min}
+use Rattle.std.proofs.Common.{◌≡◌, ℕ, List, [], ◌∷◌, true, Option, refl, ap, sym, ◌∙◌, slice_get}
+use Rattle.std.proofs.lemmas.Option.{slice_get-map}
+use Rattle.std.specs.Prelude.{map, option_map, min}
 use Rattle.uv_ids.specs.declared.due.Due.{Due}
 use Rattle.uv_ids.specs.declared.id.Id.{Id}
 use Rattle.uv_records.specs.declared.lists.WatcherKind.TheVariants as watcher
-use Rattle.uv_records.specs.declared.named.Named.{Named}
-use Rattle.uv_records.specs.declared.slot.Slot.{Slot}
-use Rattle.uv_records.specs.Slots.{held}
-use Rattle.uv_work.specs.declared.content.Content.{Content}
 use Rattle.uv_script.specs.Program.{Program, arena_size}
 use Rattle.uv_model.specs.declared.place.Place.{Place}
 use Rattle.uv_model.specs.declared.place.Place.TheVariants.{Main, Running}
 use Rattle.uv_model.specs.State.{State}
-use Rattle.uv_order.specs.Active.{run_ids}
+use Rattle.uv_order.specs.Active.{has_id, run_ids}
 use Rattle.uv_shift.specs.Shift.{By}
 use Rattle.uv_shift.specs.Earliest.{back, base, earlier, earliest, least_start, or_first, or_over}
 use Rattle.uv_shift.proofs.Timed.{earliest_timed}
-use Rattle.uv_generations.specs.Youngest.{youngest}
+use Rattle.uv_generations.specs.Youngest.{youngest, IsInSlot}
 use Rattle.uv_names.specs.Counts.{capped, capped_place}
 use Rattle.uv_names.specs.Stale.{staled}
 use Rattle.uv_slots.specs.Arranged.{arranged, arranged_entry, arranged_id}
-use Rattle.uv_slots.specs.Buried.{buried, buried_by, buried_id, buried_name, dead_id}
-use Rattle.uv_slots.specs.NamedForm.{named_order, slot_bound, slots_bound}
-use Rattle.uv_pooled.specs.Pooled.{pooled}
+use Rattle.uv_slots.specs.Buried.{buried}
+use Rattle.uv_slots.specs.NamedForm.{named_order}
+use Rattle.uv_tale.proofs.Normal.{normal, settled, by_name}
 use Rattle.uv_workers.specs.Workers.{orderly}
-use Rattle.uv_by_name.specs.ByName.{by_name, IsRegular}
-use Rattle.uv_tale.specs.Tale.{tale}
-use Rattle.uv_tale.proofs.Made.{made, named_entry}
-use Rattle.uv_tale.proofs.Settled.{form_free, form_list, form_names, form_running, form_slots, form_timers, form_walk, has_list, has_yet, none_held, settled_by}
+use Rattle.uv_tale.specs.Alike.{IsRegular}
+use Rattle.uv_tale.specs.Tale.{run_names, tale}
+use Rattle.uv_tale.proofs.Made.{made, named_entry, place_id}
+use Rattle.uv_tale.proofs.Making.{form_free, form_list, form_names, form_running, form_runs, form_slots, form_timers, form_walk, has_list, has_yet, settled_by}
+use Rattle.uv_tale.proofs.Settled.{order_stays}
 use Rattle.uv_tale.proofs.Timers.{named_timers}
 
 -- ---- by how much it is later than its earliest form
@@ -53,31 +51,24 @@ same_base n o dead s =
     let two = start_other (arranged_id o) s.timers s.next_start in
     λ i. record { ms = one i; starts = two i }
 
--- ---- its order stays where names forget what is gone
-
-module _ (dead : ℕ) (slots : List (Slot Content)) (none : held slots (dead_id dead) ≡ None) where
-  slot_buried : (o : Option Id) → slot_bound slots (option_map (buried_id dead slots) o) ≡ slot_bound slots o
-  slot_buried None = refl
-  slot_buried (Some id) = by (held slots id) refl where
-    by : (c : Option Content) → held slots id ≡ c →
-        slot_bound slots (Some (buried_by dead id c)) ≡ option_map (λ (x : Content). id.slot) c
-    by None e = ap (option_map (λ (x : Content). dead)) none
-    by (Some x) e = ap (option_map (λ (x : Content). id.slot)) e
-
-  slots_buried : (ns : List Named) → slots_bound (map (buried_name dead slots) ns) slots ≡ slots_bound ns slots
-  slots_buried [] = refl
-  slots_buried (x ∷ xs) = λ i. option_to_list (slot_buried x.id i) ++ slots_buried xs i
-
 module _ (p : Program) (n : ℕ) (s : State) (regular : IsRegular p s) where
-  order_stays : named_order (buried (arena_size p).slots s) ≡ named_order s
-  order_stays = ap (λ (o : List ℕ). o ++ s.arena.free)
-      (slots_buried (arena_size p).slots s.arena.slots (none_held p n s regular) s.names)
-
   -- the same, by the order of the state itself
-  by_order : by_name p n s ≡ orderly (youngest (back (base s) (settled_by p n s regular)))
-  by_order = ap (λ (o : List ℕ). pooled n (arranged o (buried (arena_size p).slots s))) order_stays
-      ∙ ap (λ (d : By). orderly (youngest (back d (settled_by p n s regular))))
+  by_order : normal n (settled p s) ≡ youngest (back (base s) (settled_by p n s regular))
+  by_order = ap (λ (o : List ℕ). normal n (arranged o (buried (arena_size p).slots s))) (order_stays p s regular)
+      ∙ ap (λ (d : By). youngest (back d (settled_by p n s regular)))
       (same_base n (named_order s) (arena_size p).slots s)
+
+  -- those that wait or run are held
+  in_slots : (id : Id) → has_id (run_ids s.running) id ≡ true → IsInSlot s id
+  in_slots id e = regular.young.opened id (has_yet s.waiting (run_ids s.running) id e)
+
+  -- what a worker runs there has the place of its name
+  pub run_made : (k : ℕ) → slice_get (normal n (settled p s)).running k
+      ≡ option_map (option_map (place_id (tale n s).names)) (slice_get (run_names s.arena.slots s.running) k)
+  run_made k =
+      ap (λ (u : State). slice_get u.running k) by_order
+      ∙ ap (λ (xs : List (Option Id)). slice_get xs k) (form_runs p n s regular s.running in_slots)
+      ∙ slice_get-map (option_map (place_id (tale n s).names)) (run_names s.arena.slots s.running) k
 
   pub is_made : by_name p n s ≡ made (arena_size p).slots (tale n s) (map (named_entry s.arena.slots) (earliest s).timers)
   is_made =
@@ -95,10 +86,9 @@ module _ (p : Program) (n : ℕ) (s : State) (regular : IsRegular p s) where
       let async = walk s.watchers.async (k.watchers watcher.Async) in
       let closing = walk s.closing k.closing in
       let waiting = list s.waiting (λ id e. k.opened id (has_list s.waiting (run_ids s.running) id e)) in
-      let running = form_running p n s regular s.running
-      (λ id e. k.opened id (has_yet s.waiting (run_ids s.running) id e)) in
+      let running = form_running p n s regular s.running in_slots in
       let done = walk s.done k.done in
-      by_order ∙ (λ i. record {
+      ap orderly by_order ∙ (λ i. record {
         place = (tale n s).place;
         names = places i;
         arena = record { slots = slots i; free = free i; unused = s.arena.unused };

@@ -10,20 +10,13 @@ use Rattle.uv_work.specs.declared.content.Content.{Content}
 use Rattle.uv_shift.specs.Shift.{By}
 use Rattle.uv_shift.specs.Earliest.{earlier}
 use Rattle.uv_shift.specs.Retimed.{retimed_content}
-use Rattle.uv_slots.specs.Arranged.{times, IsOrder, place_in, place_of, picked}
+use Rattle.uv_slots.specs.Arranged.{times, IsOrder, place_of, picked}
 use Rattle.uv_slots.specs.NamedForm.{slot_bound, slots_bound, vacancies}
+use Rattle.uv_slots.proofs.Moved.{stands, placed_once}
 use Rattle.uv_tale.specs.Tale.{Told, bound_by, bound_to, told_name}
 use Rattle.uv_tale.proofs.Made.{holding, place_told, slot_told, slots_held, empty_slot, numbers_from}
 
 -- ---- the place of a number
-
-stands : (o : List ℕ) (m n : ℕ) → slice_get o m ≡ Some n → times o n ≡ 0 → ⊥
-stands (k ∷ ks) (suc m) n e none = grind (arith, stands ks m n)
-stands each e1 n e none = grind arith
-
-placed_once : (o : List ℕ) (m n : ℕ) → slice_get o m ≡ Some n → times o n ≡ 1 → place_in o n ≡ Some m
-placed_once (k ∷ ks) (suc m) n e once = grind (arith, stands ks m n, placed_once ks m n)
-placed_once each e1 n e once = grind arith
 
 -- what stands at a place in an order has that place
 pub placed : (o : List ℕ) (m n : ℕ) → IsOrder o → slice_get o m ≡ Some n → place_of o n ≡ m

@@ -1,5 +1,5 @@
 -- The active timers, by their names, are told by what the names hold: they stand in the order in which they are due.
-use Rattle.std.proofs.Common.{◌≡◌, ℕ, inl, inr, List, [], ◌∷◌, true, Option, Some, None, refl, ap, ap₂, sym, subst, ◌∙◌, arith, option_and_then, slice_get}
+use Rattle.std.proofs.Common.{◌≡◌, ℕ, inl, inr, List, [], ◌∷◌, true, Option, Some, None, refl, ap, sym, subst, ◌∙◌, arith, option_and_then, slice_get}
 use Rattle.std.specs.Prelude.{map, option_map, unwrap_or}
 use Rattle.std.specs.declared.cmp.Ordering.TheVariants.{Less}
 use Rattle.std.proofs.lemmas.Option.{none-some, same_Some, slice_get-map}
@@ -57,8 +57,7 @@ same_list (t ∷ ts) [] s r w v = absurd (w t.0 t.1 (inl (refl, refl)))
 same_list (t ∷ ts) (u ∷ us) s r w v =
     let first = first_same t u ts us s.0 r.0 (w t.0 t.1 (inl (refl, refl))) (v u.0 u.1 (inl (refl, refl))) in
     let same : t ≡ u = λ i. (first.0 i, first.1 i) in
-    ap₂ (λ h rest. h ∷ rest) same
-    (same_list ts us s.1 r.1 (within_rest t u ts us first.0 s.0 w) (within_rest u t us ts (sym first.0) r.0 v))
+    search ((same_list ts us s.1 r.1 (within_rest t u ts us first.0 s.0 w) (within_rest u t us ts (sym first.0) r.0 v)))
 
 -- ---- entries by names
 

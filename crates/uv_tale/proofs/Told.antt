@@ -1,4 +1,4 @@
--- The tale of a state is that of its form by names.
+-- What each change that a form takes away leaves is told as before.
 use Rattle.std.proofs.Common.{◌≡◌, ℕ, suc, ◌+◌, ◌≤◌, List, [], ◌∷◌, length, Option, Some, None, refl, ap, ap₂, sym, ◌∙◌}
 use Rattle.std.specs.Prelude.{map, min, option_map}
 use Rattle.std.proofs.lemmas.List.{length-map}
@@ -11,7 +11,6 @@ use Rattle.uv_records.specs.Slots.{Slots, held}
 use Rattle.uv_records.specs.Walks.{Walk}
 use Rattle.uv_work.specs.declared.content.Content.{Content}
 use Rattle.uv_work.specs.declared.content.Content.TheVariants as content
-use Rattle.uv_script.specs.Program.{Program}
 use Rattle.uv_model.specs.declared.place.Body.{Body}
 use Rattle.uv_model.specs.declared.place.Place.{Place}
 use Rattle.uv_model.specs.declared.place.Place.TheVariants.{Main, Running}
@@ -20,23 +19,21 @@ use Rattle.uv_shift.specs.Shift.{By, shift}
 use Rattle.uv_shift.specs.Earliest.{base, earlier, earliest, or_first, or_over}
 use Rattle.uv_shift.specs.Retimed.{Retiming, retimed_content, retimed_place, retimed_slot}
 use Rattle.uv_shift.proofs.Base.{earliest_same}
-use Rattle.uv_generations.specs.More.{Frees}
-use Rattle.uv_generations.proofs.More.{rename, renamed_slots}
+use Rattle.uv_generations.specs.More.{Frees, more}
+use Rattle.uv_generations.proofs.More.{renamed_slots}
 use Rattle.uv_generations.proofs.Slots.{held_renamed}
 use Rattle.uv_names.specs.Counts.{capped_body, capped_calls, capped_name, capped_place}
 use Rattle.uv_names.specs.Stale.{staled_id, staled_name}
 use Rattle.uv_names.proofs.Counted.{twice}
 use Rattle.uv_names.proofs.Stales.{held_same}
-use Rattle.uv_normal.specs.Normal.{reduced}
-use Rattle.uv_slots.specs.Arranged.{place_of, arranged_id, arranged_slots}
+use Rattle.uv_tale.proofs.Normal.{reduced}
+use Rattle.uv_slots.specs.Arranged.{arranged}
 use Rattle.uv_slots.specs.Buried.{buried, buried_by, buried_id, buried_name}
 use Rattle.uv_slots.proofs.Buries.{dead_gone}
-use Rattle.uv_slots.proofs.Orders.{length_arranged}
+use Rattle.uv_slots.proofs.Orders.{Fits, length_arranged}
 use Rattle.uv_slots.proofs.Arranging.{held_arranged}
-use Rattle.uv_workers.specs.Workers.{ordered}
+use Rattle.uv_workers.specs.Workers.{ordered, orderly}
 use Rattle.uv_workers.proofs.Runs.{map_ordered}
-use Rattle.uv_by_name.specs.ByName.{by_name, IsRegular}
-use Rattle.uv_by_name.proofs.Reading.{Reads, reads_alike}
 use Rattle.uv_tale.specs.Tale.{Bound, Nothing, Gone, Holds, Told, Tale, as_id, bound_by, bound_to, name_at, names_at, number_of, runs_at, tale, tale_by, told_name, walk_at}
 use Rattle.uv_tale.proofs.Form.{first_other, over_capped, start_other}
 use Rattle.uv_tale.proofs.Timers.{held_retimed}
@@ -49,18 +46,18 @@ each f g h same (x ∷ xs) = ap₂ (λ y ys. y ∷ ys) (same x) (each f g h same
 -- ---- the tale is told by the earliest form, as it stands
 
 -- what a name is bound to, with its times as they are
-abbrev content_now : Option Content → Bound
+abbrev pub content_now : Option Content → Bound
 content_now None = Gone
 content_now (Some x) = Holds x
 
-abbrev bound_now : List (Slot Content) → Option Id → Bound
+abbrev pub bound_now : List (Slot Content) → Option Id → Bound
 bound_now slots None = Nothing
 bound_now slots (Some id) = content_now (held slots id)
 
-abbrev name_now : ℕ → List (Slot Content) → Named → Told
+abbrev pub name_now : ℕ → List (Slot Content) → Named → Told
 name_now n slots x = record { bound = bound_now slots x.id; calls = capped_calls n x.calls }
 
-abbrev tale_now : ℕ → State → Tale
+abbrev pub tale_now : ℕ → State → Tale
 tale_now n s = record {
   place = capped_place n s.place;
   names = map (name_now n s.arena.slots) s.names;
@@ -107,7 +104,7 @@ module _ (d : By) (n : ℕ) (slots : List (Slot Content)) where
   at_same id = number_same (earlier d) (held slots id) ∙ ap number_of (sym (held_retimed (earlier d) slots id))
 
 -- so is the whole tale
-tale_earliest : (n : ℕ) (s : State) → tale n s ≡ tale_now n (earliest s)
+pub tale_earliest : (n : ℕ) (s : State) → tale n s ≡ tale_now n (earliest s)
 tale_earliest n s =
     let d = base s in
     let slots = s.arena.slots in
@@ -240,7 +237,7 @@ calls_twice : (n : ℕ) (c : Calls) → capped_calls n (capped_calls n c) ≡ ca
 calls_twice n c = λ i. record { handle = twice c.handle n i; after = twice c.after n i; close = twice c.close n i }
 
 -- so the tale stays where counts are cut, and names forget earlier generations
-tale_reduced : (n : ℕ) (s : State) → tale n (reduced n s) ≡ tale n s
+pub tale_reduced : (n : ℕ) (s : State) → tale n (reduced n s) ≡ tale n s
 tale_reduced n s =
     let slots = s.arena.slots in
     let d = base s in
@@ -256,7 +253,7 @@ tale_reduced n s =
     ap (λ (x : By). tale_by x n (reduced n s)) by ∙ (λ i. record (tale n s) { place = place i; names = names i })
 
 -- and where they forget in which slot that was which is gone
-tale_buried : (n dead : ℕ) (s : State) → length s.arena.slots + s.arena.unused ≤ dead → tale n (buried dead s) ≡ tale n s
+pub tale_buried : (n dead : ℕ) (s : State) → length s.arena.slots + s.arena.unused ≤ dead → tale n (buried dead s) ≡ tale n s
 tale_buried n dead s below =
     let slots = s.arena.slots in
     let d = base s in
@@ -268,20 +265,15 @@ tale_buried n dead s below =
 -- ---- the whole
 
 -- the tale is the same after each change that the form by names takes away
-pub reads_tale : (n : ℕ) → Reads n (tale n)
-reads_tale n = record {
-  sees = record {
-    reduces = tale_reduced n;
-    shifts = λ d s. tale_earliest n (shift d s) ∙ ap (tale_now n) (earliest_same d s) ∙ sym (tale_earliest n s);
-    frees = search (tale_other, rename, renamed_slots, held_renamed, length_renamed);
-    buries = tale_buried n;
-    arranges = λ o s fits. tale_other n (arranged_id o) (arranged_slots o s.arena.slots) (map (place_of o) s.arena.free) s
-        (λ id. held_arranged o s.arena.slots id fits) (length_arranged o s.arena.slots fits);
-  };
-  runs = λ s. ap (λ (xs : List (Option Id)). record (tale n s) { running = xs })
-      (map_ordered (option_map (λ (id : Id). as_id (name_at s.arena.slots id))) s.running);
-}
+module _ (n : ℕ) where
+  pub tale_later : (d : By) (s : State) → tale n (shift d s) ≡ tale n s
+  tale_later d s = tale_earliest n (shift d s) ∙ ap (tale_now n) (earliest_same d s) ∙ sym (tale_earliest n s)
 
--- of two states that have the same form the same is told
-pub tales_alike : (p : Program) (n : ℕ) (s t : State) → IsRegular p s → IsRegular p t → by_name p n s ≡ by_name p n t → tale n s ≡ tale n t
-tales_alike p n s t h k same = reads_alike n (tale n) p (reads_tale n) s t h k same
+  pub tale_more : (k : Frees) (s : State) → tale n (more k s) ≡ tale n s
+  tale_more k s = search (tale_other, held_renamed, length_renamed)
+
+  pub tale_arranged : (o : List ℕ) (s : State) → Fits o s.arena.slots → tale n (arranged o s) ≡ tale n s
+  tale_arranged o s fits = search (tale_other, held_arranged, length_arranged)
+
+  pub tale_orderly : (s : State) → tale n (orderly s) ≡ tale n s
+  tale_orderly s = search map_ordered

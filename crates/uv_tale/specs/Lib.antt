@@ -1,1 +1,2 @@
 pub mod Tale
+pub mod Alike

@@ -1,5 +1,5 @@
 -- What is told of a state: of each name what it is bound to, and how often its callbacks were called; where the loop stands; which names
--- stand on its lists; and how many slots were used. It tells the form of the state by its names.
+-- stand on its lists; and how many slots were used. Where the same is told of two states, they go on alike (`Alike.antt`).
 use Rattle.std.specs.Prelude.{◌-◌, ℕ, List, map, length, Option, Some, None, option_map}
 use Rattle.uv_ids.specs.declared.id.Id.{Id}
 use Rattle.uv_records.specs.declared.named.Calls.{Calls}
@@ -64,9 +64,13 @@ walk_at slots w = record { list = names_at slots w.list; yet = names_at slots w.
 abbrev pub as_id : ℕ → Id
 as_id name = record { slot = name; generation = 0 }
 
--- what the workers run, whichever of them runs which: the names in order
+-- what each worker runs, by its name
+abbrev pub run_names : List (Slot Content) → List (Option Id) → List (Option Id)
+run_names slots running = map (option_map (λ (id : Id). as_id (name_at slots id))) running
+
+-- whichever of them runs which: the names in order
 abbrev pub runs_at : List (Slot Content) → List (Option Id) → List (Option Id)
-runs_at slots running = ordered (map (option_map (λ (id : Id). as_id (name_at slots id))) running)
+runs_at slots running = ordered (run_names slots running)
 
 -- ---- the whole
 

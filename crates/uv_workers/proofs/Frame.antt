@@ -1,8 +1,8 @@
 -- A step that is no worker's reads nothing of what workers run, and leaves it as it is.
-use Rattle.std.proofs.Common.{◌≡◌, List, false, [], ◌∷◌, Option, Some, refl, ap, ap₂, sym, ◌∙◌}
+use Rattle.std.proofs.Common.{◌≡◌, List, false, Option, Some, refl, ap, ap₂, sym, ◌∙◌}
 use Rattle.std.proofs.lemmas.List.{map-id}
 use Rattle.uv_ids.specs.declared.event.Event.{Event}
-use Rattle.uv_ids.specs.declared.event.Event.TheVariants.{Loop, Take, Finish, Cancel, Send, Io, Tick}
+use Rattle.uv_ids.specs.declared.event.Event.TheVariants.{Take, Finish, Tick}
 use Rattle.uv_ids.specs.declared.id.Id.{Id}
 use Rattle.uv_ids.specs.declared.id.Var.{Var}
 use Rattle.uv_ids.specs.declared.seen.Callback.{Callback}
@@ -12,7 +12,7 @@ use Rattle.uv_records.specs.Names.{count_of, counted}
 use Rattle.uv_script.specs.Program.{Program}
 use Rattle.uv_model.specs.declared.place.Run.{Run}
 use Rattle.uv_model.specs.declared.place.Place.TheVariants.{Running}
-use Rattle.uv_model.specs.State.{State, front_request, named, with_named}
+use Rattle.uv_model.specs.State.{State, named, with_named}
 use Rattle.uv_model.specs.Next as steps
 use Rattle.uv_model.specs.Next.{Next, Moves, Refuses, next}
 use Rattle.uv_names.proofs.Changed.{as_is, changed, changed_run, Hides, named_changed, with_named_changed}
@@ -31,10 +31,6 @@ put_next running (Moves s line) = Moves (put running s) line
 put_next running (Refuses why) = Refuses why
 
 module _ (running : List (Option Id)) where
-  pub front_request_same : (s : State) (ids : List Id) → front_request (put running s) ids ≡ front_request s ids
-  front_request_same s [] = refl
-  front_request_same s (id ∷ ids) = refl
-
   -- ---- a change of what workers run alone
 
   abbrev these : List (Option Id) → List (Option Id)

@@ -1,35 +1,28 @@
 -- Steps of states that are the same except for which worker runs which request.
-use Rattle.std.proofs.Common.{◌≡◌, ℕ, ◌+◌, ◌||◌, List, [], ◌∷◌, Bool, true, false, drop, Option, Some, None, Result, Ok, Err, refl, ap, sym, ◌∙◌, slice_get, slice_set, if◌then◌else◌}
-use Rattle.std.specs.Prelude.{is_some}
-use Rattle.std.specs.List.{list_any}
+use Rattle.std.proofs.Common.{◌≡◌, ℕ, List, false, drop, Option, Some, None, Result, Ok, Err, refl, ap, sym, ◌∙◌, slice_get, slice_set}
 use Rattle.uv_ids.specs.declared.id.Id.{Id}
 use Rattle.uv_ids.specs.declared.id.Var.{Var}
 use Rattle.uv_ids.specs.declared.event.Event.{Event}
 use Rattle.uv_ids.specs.declared.event.Event.TheVariants.{Take, Finish}
 use Rattle.uv_ids.specs.declared.fault.Why.{Why}
-use Rattle.uv_ids.specs.declared.fault.Why.TheVariants.{NoWork, IdleWorker}
+use Rattle.uv_ids.specs.declared.fault.Why.TheVariants.{IdleWorker}
 use Rattle.uv_ids.specs.declared.seen.Seen.{Seen}
 use Rattle.uv_ids.specs.declared.seen.Seen.TheVariants as seen
 use Rattle.uv_script.specs.Program.{Program}
 use Rattle.uv_work.specs.Digests.{digest_of}
-use Rattle.uv_work.specs.Pool.{is_run}
 use Rattle.uv_work.specs.Tasks.{text_of}
 use Rattle.uv_work.specs.declared.outcome.Outcome.TheVariants.{Finished}
 use Rattle.uv_work.specs.declared.request.Request.{Request}
 use Rattle.uv_model.specs.Found.{found_or}
 use Rattle.uv_model.specs.Ops.{ended}
-use Rattle.uv_model.specs.Queries.{worker_of, runner_from}
-use Rattle.uv_model.specs.State.{State, front_request, request, with_id}
+use Rattle.uv_model.specs.State.{State, request, with_id}
 use Rattle.uv_model.specs.Next as steps
 use Rattle.uv_model.specs.Next.{Next, Moves, Refuses, next}
 use Rattle.uv_workers.specs.Workers.{is_of_worker, next_by, ordered, orderly, orderly_next}
-use Rattle.uv_workers.proofs.Frame.{put, put_next, front_request_same, next_same}
-use Rattle.uv_workers.proofs.Runs.{any_ordered, found_alike, ordered_again, set_alike}
+use Rattle.uv_workers.proofs.Frame.{put, put_next, next_same}
+use Rattle.uv_workers.proofs.Runs.{ordered_again, set_alike}
 
 -- ---- two states that are the same with the workers' requests in order
-
-pub orderly_again : (s : State) → orderly (orderly s) ≡ orderly s
-orderly_again s = ap (λ running. put running s) (ordered_again s.running)
 
 pub runs_alike : (s t : State) → orderly s ≡ orderly t → ordered s.running ≡ ordered t.running
 runs_alike s t same = ap (λ (u : State). u.running) same
@@ -78,9 +71,7 @@ take_with p s running k j same here =
         ≡ orderly_next (next_by j (steps.take s k (steps.next_work s o)))
     by None at there = refl
     by (Some (Some id)) at there = refl
-    by (Some None) at there =
-        ap (λ x. orderly_next (steps.take (put running s) j (found_or x Ok (Err NoWork)))) (front_request_same running s s.waiting)
-        ∙ takes at there (found_or (front_request s s.waiting) Ok (Err NoWork))
+    by (Some None) at there = simp takes
 
 finish_with : (p : Program) (s : State) (running : List (Option Id)) (k j : ℕ) → ordered s.running ≡ ordered running →
     slice_get s.running k ≡ slice_get running j → orderly_next (next p (put running s) (Finish j)) ≡ orderly_next (next_by j (next p s (Finish k)))
@@ -141,21 +132,3 @@ finish_line p s t k line is = by (steps.work_of s (slice_get s.running k)) is
     by : (r : Result (Id × Request) Why) → steps.finish s k r ≡ Moves t line → (v : Var) × (id : Id) × (line ≡ Some (seen.Finish k v id))
     by (Err why) e = absurd (let f : ⊥ = cc in f)
     by (Ok r) e = let says : line ≡ Some (seen.Finish k r.1.name r.0) = cc in (r.1.name, r.0, says)
-
--- ---- what is asked of workers
-
-runner_any : (n : ℕ) (xs : List (Option Id)) (id : Id) → is_some (runner_from n xs id) ≡ list_any (λ run. is_run run id) xs
-runner_any n [] id = refl
-runner_any n (x ∷ xs) id = by (is_run x id) (runner_any (n + 1) xs id)
-  where
-    by : (b : Bool) → is_some (runner_from (n + 1) xs id) ≡ list_any (λ run. is_run run id) xs →
-        is_some (if b then Some n else runner_from (n + 1) xs id) ≡ b || list_any (λ run. is_run run id) xs
-    by true more = refl
-    by false more = more
-
-pub runs_ordered : (s : State) (id : Id) → is_some (worker_of (orderly s) id) ≡ is_some (worker_of s id)
-runs_ordered s id = runner_any 0 (ordered s.running) id ∙ any_ordered (λ run. is_run run id) s.running ∙ sym (runner_any 0 s.running id)
-
-pub workers_alike : (s t : State) (k : ℕ) (run : Option Id) → orderly s ≡ orderly t → slice_get s.running k ≡ Some run →
-    (j : ℕ) × (slice_get t.running j ≡ Some run)
-workers_alike s t k run same at = found_alike s.running t.running k run (runs_alike s t same) at

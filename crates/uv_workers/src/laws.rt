@@ -1,6 +1,5 @@
 //! What a step is where it is forgotten which worker runs which request.
-ghost use Rattle.std.specs.Prelude.{◌≡◌, ℕ, List, length, map, Bool, false, Option, Some, None, option_map, is_some, slice_get};
-ghost use Rattle.std.specs.List.{list_any};
+ghost use Rattle.std.specs.Prelude.{◌≡◌, ℕ, false, Option, Some, slice_get};
 ghost use Rattle.uv_ids.specs.declared.event.Event.{Event};
 ghost use Rattle.uv_ids.specs.declared.event.Event.TheVariants.{Take, Finish};
 ghost use Rattle.uv_ids.specs.declared.id.Id.{Id};
@@ -8,10 +7,9 @@ ghost use Rattle.uv_ids.specs.declared.id.Var.{Var};
 ghost use Rattle.uv_ids.specs.declared.seen.Seen.{Seen};
 ghost use Rattle.uv_ids.specs.declared.seen.Seen.TheVariants as seen;
 ghost use Rattle.uv_script.specs.Program.{Program};
-ghost use Rattle.uv_model.specs.Queries.{worker_of};
 ghost use Rattle.uv_model.specs.State.{State};
 ghost use Rattle.uv_model.specs.Next.{next, Moves};
-ghost use Rattle.uv_workers.specs.Workers.{is_of_worker, next_by, ordered, orderly, orderly_next};
+ghost use Rattle.uv_workers.specs.Workers.{is_of_worker, next_by, orderly, orderly_next};
 
 /// A step that is no worker's goes as it does where the workers' requests are in order: with the same line, or the same refusal, to the
 /// same state with them in order. So two states that are the same with them in order go on alike. It does nothing, and is called for its
@@ -44,25 +42,4 @@ pub fn finishes_alike()
         → orderly_next (next p t (Finish j)) ≡ orderly_next (next_by j (next p s (Finish k))) }
     ensures line { (p : Program) (s t : State) (k : ℕ) (line : Option Seen) → next p s (Finish k) ≡ Moves t line
         → (v : Var) × (id : Id) × (line ≡ Some (seen.Finish k v id)) }
-{}
-
-/// In order again they stay as they are. Whether a request is run, whether some worker is idle or runs what passes another test, and how many
-/// workers there are, a state with them in order tells as well. Where two states are the same with them in order, what a worker of the one
-/// runs, if anything, some worker of the other runs. It does nothing, and is called for its clauses.
-pub fn reads_alike()
-    ensures again { (s : State) → orderly (orderly s) ≡ orderly s }
-    ensures runs { (s : State) (id : Id) → is_some (worker_of (orderly s) id) ≡ is_some (worker_of s id) }
-    ensures any { (s : State) (test : Option Id → Bool) → list_any test (orderly s).running ≡ list_any test s.running }
-    ensures workers { (s : State) → length (orderly s).running ≡ length s.running }
-    ensures found { (s t : State) (k : ℕ) (run : Option Id) → orderly s ≡ orderly t → slice_get s.running k ≡ Some run
-        → (j : ℕ) × (slice_get t.running j ≡ Some run) }
-{}
-
-/// Requests that get other ids come in one order, whatever order they were in before. And where that is the order of others, the requests can
-/// be given to the workers so that with their other ids they are the others, one by one. It does nothing, and is called for its clauses.
-pub fn renames_alike()
-    ensures ordered { (f : Id → Id) (running : List (Option Id))
-        → ordered (map (option_map f) (ordered running)) ≡ ordered (map (option_map f) running) }
-    ensures given { (f : Id → Id) (running others : List (Option Id)) → ordered (map (option_map f) running) ≡ ordered others
-        → (given : List (Option Id)) × (ordered given ≡ ordered running) × (map (option_map f) given ≡ others) }
 {}

@@ -5,4 +5,4 @@
 
 mod laws;
 
-pub use laws::{finishes_alike, others_alike, reads_alike, renames_alike, takes_alike};
+pub use laws::{finishes_alike, others_alike, takes_alike};

@@ -14,6 +14,7 @@ use Rattle.uv_find.specs.Orders.{Place, asked_late, beginning}
 use Rattle.uv_find.specs.Courses.{IsAnswer}
 use Rattle.uv_find.specs.Found.{AreReached, IsNever, IsMore, IsDeepest}
 use Rattle.uv_find.specs.Spots.{rules_of, first_spot}
+use Rattle.uvt_find.specs.Searched.{searched_rules, NeverHere}
 use Rattle.uv_inquiry.specs.Grammar.{IsInquiry, IsBadInput}
 use Rattle.uv_inquiry.specs.Texts.{latest_text, at_least_text, found_text, never_text, unsettled_text, too_deep_text, out_of_memory_text}
 
@@ -22,25 +23,27 @@ pub data Answers (p : Program) (a : Asked) : List ℕ → ℕ → Type 0 where
   -- these events answer the question: the last of them does
   found : (es : List Event) (q : Place) (states : ℕ) → IsAnswer (rules_of p a) (beginning (rules_of p a)) es q → states ≤ a.states →
       Answers p a (found_text p es states) 0
-  -- no events do, however many (`NeverAnswered`); the places that they lead to are told apart by so many keys
-  never : (states : ℕ) → IsNever (rules_of p a) (first_spot (rules_of p a)) states → states ≤ a.states → Answers p a (never_text p a states) 1
+  -- no events do, however many (`NeverAnswered`); of what is searched, the places that they lead to are told apart by so many keys
+  never : (states : ℕ) → NeverHere p a a.question → IsNever (searched_rules p a) (first_spot (searched_rules p a)) states →
+      states ≤ a.states → Answers p a (never_text p a states) 1
   -- these events call the timer that is asked about so many ms late, and no events call it later
   latest : (name : Var) (ms : ℕ) (es : List Event) (q : Place) (late states : ℕ) → a.greatest ≡ true → a.question ≡ Late name ms →
       IsAnswer (asked_late (rules_of p a) name late) (beginning (rules_of p a)) es q →
-      IsNever (asked_late (rules_of p a) name (late + 1)) (first_spot (rules_of p a)) states → states ≤ a.states →
+      NeverHere p a (Late name (late + 1)) →
+      IsNever (asked_late (searched_rules p a) name (late + 1)) (first_spot (searched_rules p a)) states → states ≤ a.states →
       Answers p a (latest_text p a es late states) 0
   -- these events call it so many ms late; whether others do later isn't settled
   at_least : (name : Var) (ms : ℕ) (es : List Event) (q : Place) (late : ℕ) → a.greatest ≡ true → a.question ≡ Late name ms →
       IsAnswer (asked_late (rules_of p a) name late) (beginning (rules_of p a)) es q → Answers p a (at_least_text p es late a.states) 3
   -- it isn't settled whether any events call it
   nothing_settled : a.greatest ≡ true → Answers p a (unsettled_text a.states) 3
-  -- there are more places than may be kept
-  unsettled : IsMore (rules_of p a) (beginning (rules_of p a)) a.states → Answers p a (unsettled_text a.states) 3
+  -- of what is searched there are more places than may be kept
+  unsettled : IsMore (searched_rules p a) (beginning (searched_rules p a)) a.states → Answers p a (unsettled_text a.states) 3
   -- events lead to where no more of them may be taken
   too_deep : IsDeepest (rules_of p a) (beginning (rules_of p a)) → Answers p a too_deep_text 3
   -- memory was refused, and events lead to so many places that were kept until then
-  out_of_memory : (states : ℕ) (keys : List (List ℕ)) → AreReached (rules_of p a) (beginning (rules_of p a)) states keys → states ≤ a.states →
-      Answers p a (out_of_memory_text states) 3
+  out_of_memory : (states : ℕ) (keys : List (List ℕ)) → AreReached (searched_rules p a) (beginning (searched_rules p a)) states keys →
+      states ≤ a.states → Answers p a (out_of_memory_text states) 3
 
 -- the status of a fault
 abbrev pub status_of : Fault → ℕ

@@ -6,16 +6,17 @@ ghost use Rattle.std.specs.Prelude.{◌<◌, ◌+◌, true, Some};
 ghost use Rattle.uv_asking.specs.declared.asking.Question.TheVariants.{Late};
 ghost use Rattle.uv_find.specs.Orders.{asked_late};
 ghost use Rattle.uv_find.specs.Found.{RisesTo};
-ghost use Rattle.uv_find.specs.Spots.{rules_of, first_spot};
+ghost use Rattle.uv_find.specs.Spots.{first_spot};
 ghost use Rattle.uv_ids.specs.declared.fault.Fault.TheVariants.{Memory, Write as WriteFault};
 ghost use Rattle.uv_asking.specs.Asked.{asked_in};
+ghost use Rattle.uvt_find.specs.Searched.{searched, searched_rules};
 ghost use Rattle.uvt_find.specs.Status.{Answers, EndsBy, IsAnswerStatus, IsReplyFault, IsRunFault, MayEnd, Ran, Responds, status_by, status_of};
 
 use std::alloc::Global;
 use std::io::Write;
 use uv_asking::Question;
 use uv_engine::{Sink, Source, write_text};
-use uv_find::{Answer, Orders, Risen, find, find_any, may_forget, rise};
+use uv_find::{Answer, Orders, Risen, find, find_any, may_forget, rise, work_makes_no_difference};
 use uv_ids::{Fault, Var};
 use uv_inquiry::{
     Inquiry, at_least_text, found_text, latest_text, may_never_end, never_text, no_end_text,
@@ -46,11 +47,12 @@ fn search<M: Machine>(
     inquiry: &Inquiry,
     orders: &mut Orders<M>,
 ) -> Result<Told, Fault>
-    requires rules { orders.old.rules ≡ rules_of inquiry.now.script (asked_in inquiry.now.asking) }
+    requires rules { orders.old.rules ≡ searched_rules inquiry.now.script (asked_in inquiry.now.asking) }
     requires spot { orders.old.spot ≡ first_spot orders.old.rules }
     ensures told { IfOk result (λ told. Answers inquiry.now.script (asked_in inquiry.now.asking) told.text.items told.status) }
     ensures err { IfErr result (λ fault. fault ≡ Memory) }
 {
+    work_makes_no_difference();
     let states = inquiry.asking.states;
     match find(alloc, orders, states as usize) {
         Answer::Found(states) => Ok(Told {
@@ -76,6 +78,19 @@ fn search<M: Machine>(
     }
 }
 
+/// What is searched: where no more is asked of a state than is told of it, the script in which each request asks for the same work.
+fn searched(alloc: Global, inquiry: &Inquiry) -> Result<Script, Fault>
+    ensures script { IfOk result (λ script. script ≡ searched inquiry.now.script (asked_in inquiry.now.asking)) }
+    ensures err { IfErr result (λ fault. fault ≡ Memory) }
+{
+    let script = copied(alloc, &inquiry.script)?;
+    if may_forget(&inquiry.script, &inquiry.asking) {
+        Ok(script.with_same_work())
+    } else {
+        Ok(script)
+    }
+}
+
 /// Answers what is asked of a script, over a new machine of it.
 fn answer<M: Machine>(alloc: Global, inquiry: &Inquiry) -> Result<Told, Fault>
     requires back { M.BackWantsMemory → ⊥ }
@@ -98,11 +113,11 @@ fn answer<M: Machine>(alloc: Global, inquiry: &Inquiry) -> Result<Told, Fault>
 /// The orders of what is asked, over a new machine, at their beginning.
 fn begun<M: Machine>(alloc: Global, inquiry: &Inquiry) -> Result<Orders<M>, Fault>
     requires back { M.BackWantsMemory → ⊥ }
-    ensures rules { IfOk result (λ orders. orders.rules ≡ rules_of inquiry.now.script (asked_in inquiry.now.asking)) }
+    ensures rules { IfOk result (λ orders. orders.rules ≡ searched_rules inquiry.now.script (asked_in inquiry.now.asking)) }
     ensures spot { IfOk result (λ orders. orders.spot ≡ first_spot orders.rules) }
     ensures err { IfErr result (λ fault. fault ≡ Memory) }
 {
-    let machine = M::begin(alloc, copied(alloc, &inquiry.script)?)?;
+    let machine = M::begin(alloc, searched(alloc, inquiry)?)?;
     let orders = Orders::new(alloc, machine, &inquiry.asking)?;
     Ok(orders)
 }
@@ -116,7 +131,7 @@ fn latest<M: Machine>(
     ms: u64,
 ) -> Result<Told, Fault>
     requires back { M.BackWantsMemory → ⊥ }
-    requires rules { orders.old.rules ≡ rules_of inquiry.now.script (asked_in inquiry.now.asking) }
+    requires rules { orders.old.rules ≡ searched_rules inquiry.now.script (asked_in inquiry.now.asking) }
     requires spot { orders.old.spot ≡ first_spot orders.old.rules }
     requires greatest { inquiry.now.asking.greatest ≡ true }
     requires question { inquiry.now.asking.question ≡ Late name ms }
@@ -142,12 +157,13 @@ fn called_never(
 ) -> Result<Told, Fault>
     requires greatest { inquiry.now.asking.greatest ≡ true }
     requires question { inquiry.now.asking.question ≡ Late name ms }
-    requires risen { let r = rules_of inquiry.now.script (asked_in inquiry.now.asking)
+    requires risen { let r = searched_rules inquiry.now.script (asked_in inquiry.now.asking)
         in RisesTo r (first_spot r) name inquiry.now.asking.states risen.ms risen.settled }
     requires none { risen.ms ≡ ms }
     ensures told { IfOk result (λ told. Answers inquiry.now.script (asked_in inquiry.now.asking) told.text.items told.status) }
     ensures err { IfErr result (λ fault. fault ≡ Memory) }
 {
+    work_makes_no_difference();
     match risen.settled {
         Some(kept) => {
             let text = never_text(alloc, inquiry, kept as u64)?;
@@ -177,7 +193,7 @@ fn begun_late<M: Machine>(
 ) -> Result<Orders<M>, Fault>
     requires back { M.BackWantsMemory → ⊥ }
     requires question { inquiry.now.asking.question ≡ Late name ms }
-    ensures rules { IfOk result (λ orders. orders.rules ≡ asked_late (rules_of inquiry.now.script (asked_in inquiry.now.asking)) name late) }
+    ensures rules { IfOk result (λ orders. orders.rules ≡ asked_late (searched_rules inquiry.now.script (asked_in inquiry.now.asking)) name late) }
     ensures spot { IfOk result (λ orders. orders.spot ≡ first_spot orders.rules) }
     ensures err { IfErr result (λ fault. fault ≡ Memory) }
 {
@@ -197,7 +213,7 @@ fn ends_at<M: Machine>(
     requires back { M.BackWantsMemory → ⊥ }
     requires greatest { inquiry.now.asking.greatest ≡ true }
     requires question { inquiry.now.asking.question ≡ Late name ms }
-    requires risen { let r = rules_of inquiry.now.script (asked_in inquiry.now.asking)
+    requires risen { let r = searched_rules inquiry.now.script (asked_in inquiry.now.asking)
         in RisesTo r (first_spot r) name inquiry.now.asking.states risen.ms risen.settled }
     requires some { ms < risen.ms }
     ensures told { IfOk result (λ told. Answers inquiry.now.script (asked_in inquiry.now.asking) told.text.items told.status) }
@@ -221,15 +237,16 @@ fn settled<M: Machine>(
     late: u64,
     kept: usize,
 ) -> Result<Told, Fault>
-    requires rules { orders.old.rules ≡ asked_late (rules_of inquiry.now.script (asked_in inquiry.now.asking)) name late }
+    requires rules { orders.old.rules ≡ asked_late (searched_rules inquiry.now.script (asked_in inquiry.now.asking)) name late }
     requires spot { orders.old.spot ≡ first_spot orders.old.rules }
     requires greatest { inquiry.now.asking.greatest ≡ true }
     requires question { inquiry.now.asking.question ≡ Late name ms }
-    requires risen { let r = rules_of inquiry.now.script (asked_in inquiry.now.asking)
+    requires risen { let r = searched_rules inquiry.now.script (asked_in inquiry.now.asking)
         in RisesTo r (first_spot r) name inquiry.now.asking.states (late + 1) (Some kept) }
     ensures told { IfOk result (λ told. Answers inquiry.now.script (asked_in inquiry.now.asking) told.text.items told.status) }
     ensures err { IfErr result (λ fault. fault ≡ Memory) }
 {
+    work_makes_no_difference();
     match find(alloc, orders, inquiry.asking.states as usize) {
         Answer::Found(_) => Ok(Told {
             text: latest_text(alloc, inquiry, orders.steps(), late, kept as u64)?,
@@ -248,13 +265,14 @@ fn at_least<M: Machine>(
     ms: u64,
     late: u64,
 ) -> Result<Told, Fault>
-    requires rules { orders.old.rules ≡ asked_late (rules_of inquiry.now.script (asked_in inquiry.now.asking)) name late }
+    requires rules { orders.old.rules ≡ asked_late (searched_rules inquiry.now.script (asked_in inquiry.now.asking)) name late }
     requires spot { orders.old.spot ≡ first_spot orders.old.rules }
     requires greatest { inquiry.now.asking.greatest ≡ true }
     requires question { inquiry.now.asking.question ≡ Late name ms }
     ensures told { IfOk result (λ told. Answers inquiry.now.script (asked_in inquiry.now.asking) told.text.items told.status) }
     ensures err { IfErr result (λ fault. fault ≡ Memory) }
 {
+    work_makes_no_difference();
     let states = inquiry.asking.states;
     match find_any(alloc, orders, states as usize) {
         Answer::Found(_) => Ok(Told {

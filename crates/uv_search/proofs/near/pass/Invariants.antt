@@ -11,8 +11,7 @@ invariant-moves g l =
       rules : m.rules l.maze ≡ r;
       led : LeadTo (m.moves r) (m.next r) (m.place l.fn.maze) (take l.index l.way) (m.place l.maze);
       passed : IsPassed (m.moves r) (m.next r) (m.key r) (m.IsDeep r) l.round.seen (m.place l.fn.maze) (take l.index l.way);
-      limit : l.round.limit ≡ l.fn.round.limit;
-      keys : AreFew (m.moves r) (m.next r) (m.key r) (m.IsDeep r) (m.place l.fn.maze) l.fn.round.limit l.fn.round.seen
-          → AreFew (m.moves r) (m.next r) (m.key r) (m.IsDeep r) (m.place l.fn.maze) l.fn.round.limit l.round.seen;
+      keys : AreFew (m.moves r) (m.next r) (m.key r) (m.IsDeep r) (m.place l.fn.maze) l.limit l.fn.round.seen
+          → AreFew (m.moves r) (m.next r) (m.key r) (m.IsDeep r) (m.place l.fn.maze) l.limit l.round.seen;
       before : drop l.index (m.place l.maze ∷ m.before l.maze) ≡ m.place l.fn.maze ∷ m.before l.fn.maze;
     }

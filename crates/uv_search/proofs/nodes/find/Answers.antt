@@ -1,4 +1,4 @@
-use Rattle.std.proofs.Common.{◌≡◌, ◌<◌, ◌-◌, length, ap, subst, ◌∙◌, arith, slice_get, slice_index_or, Some}
+use Rattle.std.proofs.Common.{◌<◌, ◌-◌, length, arith, slice_index_or}
 use Rattle.std.proofs.lemmas.Option.{slice_get-get_or}
 use Rattle.uv_search.specs.Chains.{place_of}
 use Rattle.uv_search.proofs.Linking.{begins, goes_back}
@@ -8,14 +8,10 @@ pub loop-at-init : goal.loop-at-init
 loop-at-init c =
     let last = c.args.last.now in
     begins (place_of (length last)) c.args.pairs.now c.args.pair c.requires.linked.linked
-    (subst (λ p. slice_get last p ≡ Some (slice_index_or last c.place.result 0)) c.place.ensures.value
-    (slice_get-get_or last c.place.result 0 c.place.ensures.below))
+    (grind (arith, slice_get-get_or))
 
 pub returns-then-is_same-clause-some : goal.returns-then-is_same-clause-some
-returns-then-is_same-clause-some c =
-    let place = c.loop-at.at - 1 in
-    slice_get-get_or c.args.pairs.now place (0, 0) (omega (arith, c.loop-at-test.true, c.loop-at.invariant.within))
-    ∙ ap Some (c.is_same.ensures.yes c.if-is_same.true)
+returns-then-is_same-clause-some c = grind (arith, slice_get-get_or)
 
 pub loop-at-smaller : goal.loop-at-smaller
 loop-at-smaller c =

@@ -1,6 +1,6 @@
-use Rattle.std.proofs.Common.{◌≡◌, length, map, sym, subst, ◌∙◌, arith, slice_get, slice_index_or, slice_set, Some, ◌+◌}
+use Rattle.std.proofs.Common.{◌≡◌, length, subst, ◌∙◌, arith, slice_get, slice_index_or, Some, ◌+◌}
 use Rattle.std.proofs.lemmas.Option.{slice_get-get_or}
-use Rattle.uv_search.specs.Chains.{Linked, place_of}
+use Rattle.uv_search.specs.Chains.{place_of}
 use Rattle.uv_search.proofs.KeyLists.{set_long}
 use Rattle.uv_search.proofs.Linking.{linked_anew}
 use Rattle.uv_search.proofs.nodes.link.Goals as goal
@@ -20,7 +20,5 @@ loop-row-preserved c =
     record {
       long = set_long c.loop-row.before row (slice_index_or last c.place-place.result 0) ∙ i.long;
       same = set_long last c.place-place.result (row + 1) ∙ i.same;
-      linked = subst
-          (λ p. Linked (slice_set last p (row + 1)) (slice_set c.loop-row.before row (slice_index_or last c.place-place.result 0))
-          (map (place_of count) pairs) (row + 1)) (sym is) linked;
+      linked = grind arith;
     }

@@ -1,8 +1,8 @@
-use Rattle.std.proofs.Common.{◌≡◌, ◌<◌, length, ap, subst, ◌∙◌, arith, slice_get, slice_set, slice_index_or, Some, ◌+◌}
+use Rattle.std.proofs.Common.{◌≡◌, ◌<◌, length, subst, arith, slice_get, slice_index_or, Some}
 use Rattle.std.proofs.lemmas.Grind.{common_steps}
 use Rattle.std.proofs.lemmas.Option.{slice_get-get_or}
 use Rattle.uv_search.specs.Chains.{place_of}
-use Rattle.uv_search.proofs.Linking.{linked_as, linked_more}
+use Rattle.uv_search.proofs.Linking.{linked_more}
 use Rattle.uv_search.proofs.nodes.put.Goals as goal
 
 pub returns-clause-linked : goal.returns-clause-linked
@@ -18,6 +18,4 @@ returns-clause-linked c =
     let more = linked_more c.args.pair (slice_index_or last c.place-place.result 0) linked c.requires.places
     (subst (λ p. slice_get last p ≡ Some (slice_index_or last c.place-place.result 0)) is at) in
     let count : c.args.count ≡ length pairs = c.requires.count in
-    linked_as (ap (λ n. slice_set last c.place-place.result (n + 1)) count ∙ ap (λ p. slice_set last p (length pairs + 1)) is)
-    (grind (arith, common_steps, c.push_reserved.ensures.items, c.index.ensures))
-    (grind (arith, common_steps, c.push_reserved-2.ensures.items)) more
+    grind (arith, common_steps)

@@ -10,7 +10,6 @@ places-init g c =
       rules = refl;
       place = refl;
       before = refl;
-      limit = c.keep_here.ensures.limit;
       keys = few_here (m.moves r) (m.next r) (m.key r) (m.IsDeep r) (m.place c.args.maze.now) (m.place c.args.maze.now) c.args.round.now.seen
-          c.args.round.now.limit c.keep_here.new.round.seen ([], refl) c.in_ok-keep_here.ensures.keys;
+          c.args.limit c.enter_here.new.seen c.in_ok-enter_here.field-0 ([], refl) c.in_ok-enter_here.ensures.ok;
     }

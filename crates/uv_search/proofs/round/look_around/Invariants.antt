@@ -10,9 +10,8 @@ invariant-places g l =
       rules : m.rules l.maze ≡ r;
       place : m.place l.maze ≡ m.place l.fn.maze;
       before : m.before l.maze ≡ m.before l.fn.maze;
-      limit : l.round.limit ≡ l.fn.round.limit;
-      keys : AreFew (m.moves r) (m.next r) (m.key r) (m.IsDeep r) (m.place l.fn.maze) l.fn.round.limit l.fn.round.seen
-          → AreFew (m.moves r) (m.next r) (m.key r) (m.IsDeep r) (m.place l.fn.maze) l.fn.round.limit l.round.seen;
+      keys : AreFew (m.moves r) (m.next r) (m.key r) (m.IsDeep r) (m.place l.fn.maze) l.limit l.fn.round.seen
+          → AreFew (m.moves r) (m.next r) (m.key r) (m.IsDeep r) (m.place l.fn.maze) l.limit l.round.seen;
     }
 
 abbrev pub decreases-places : goal.decreases-places

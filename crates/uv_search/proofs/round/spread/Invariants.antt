@@ -11,8 +11,7 @@ invariant-moves g l =
       rules : m.rules l.maze ≡ r;
       place : m.place l.maze ≡ m.place l.fn.maze;
       before : m.before l.maze ≡ m.before l.fn.maze;
-      limit : l.round.limit ≡ l.fn.round.limit;
       keys : (p : m.Place) → CanLead (m.moves r) (m.next r) p (m.place l.fn.maze)
-          → AreFew (m.moves r) (m.next r) (m.key r) (m.IsDeep r) p l.fn.round.limit l.fn.round.seen
-          → AreFew (m.moves r) (m.next r) (m.key r) (m.IsDeep r) p l.fn.round.limit l.round.seen;
+          → AreFew (m.moves r) (m.next r) (m.key r) (m.IsDeep r) p l.limit l.fn.round.seen
+          → AreFew (m.moves r) (m.next r) (m.key r) (m.IsDeep r) p l.limit l.round.seen;
     }

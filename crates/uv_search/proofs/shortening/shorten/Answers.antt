@@ -4,29 +4,29 @@ use Rattle.uv_search.proofs.shortening.shorten.Goals as goal
 pub tries-preserved-then-branch : goal.tries-preserved-then-branch
 tries-preserved-then-branch g c =
     let i = c.tries.invariant in
-    let still = rw (i.rules, i.place) at c.in_ok-leave_out.ensures.still in
+    let left = rw (c.if-branch.true, i.rules, i.place, i.before) at c.in_ok-leave_out.ensures.left in
     record {
       rules = c.leave_out.ensures.rules ∙ i.rules;
-      place = c.in_ok-leave_out.ensures.same.0 ∙ i.place;
-      before = c.in_ok-leave_out.ensures.same.1 ∙ i.before;
-      long = omega (arith, i.long, c.in_ok-leave_out.ensures.long);
-      still = λ q w. (let t = i.still q w in still t.0 t.1);
+      place = left.0;
+      before = left.1;
+      long = omega (arith, i.long, left.2.0);
+      still = λ q w. left.2.1;
     }
 
 pub tries-preserved : goal.tries-preserved
 tries-preserved g c =
     let i = c.tries.invariant in
-    let still = rw (i.rules, i.place) at c.in_ok-leave_out.ensures.still in
+    let left = rw (c.if-branch.false, i.rules, i.place, i.before) at c.in_ok-leave_out.ensures.left in
     record {
       rules = c.leave_out.ensures.rules ∙ i.rules;
-      place = c.in_ok-leave_out.ensures.same.0 ∙ i.place;
-      before = c.in_ok-leave_out.ensures.same.1 ∙ i.before;
-      long = omega (arith, i.long, c.in_ok-leave_out.ensures.long);
-      still = λ q w. (let t = i.still q w in still t.0 t.1);
+      place = left.0;
+      before = left.1;
+      long = rw left.2.0 i.long;
+      still = rw left.2.0 i.still;
     }
 
-pub returns-in-None-clause-sure : goal.returns-in-None-clause-sure
-returns-in-None-clause-sure g c =
+pub returns-clause-sure : goal.returns-clause-sure
+returns-clause-sure g c =
     let i = c.tries.invariant in
-    let sure = rw (c.in-None.is, i.rules, i.place, c.deref.ensures.value) at c.in_ok-count.ensures.sure in
-    λ q w. (let t = i.still q w in sure t.0 t.1)
+    let led = rw (c.if-answers.false, i.rules, i.place, c.deref.ensures.value) at c.in_ok-count.ensures.led in
+    λ q w. (let t = i.still q w in led.3 t.0 t.1)

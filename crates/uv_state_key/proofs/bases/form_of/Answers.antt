@@ -17,8 +17,7 @@ returns-clause-by g c =
     let s = after p events in
     let each = (reached p events).timers.each in
     let time : c.min.result ≡ min s.time s.clock =
-    (let least : c.min.result ≡ min c.numbers-numbers.result.time c.numbers-numbers.result.clock = grind (arith, c.min.ensures) in
-    least ∙ ap (λ (n : Numbers). min n.time n.clock) c.numbers-numbers.ensures) in
+    (grind arith) in
     let first = c.first_at-at.ensures
     ∙ ap₂ (λ (ids : List Id) at. first_at s ids at) (c.as_slice.ensures.value ∙ c.in-Ok.ensures.timers) time
     ∙ first_same s s.timers (min s.time s.clock) each in

@@ -4,11 +4,7 @@ use Rattle.uv_key.proofs.Loops.{each_turn, list_end}
 use Rattle.uv_state_key.proofs.lists.push_numbers.Goals as goal
 
 pub loop-number-preserved : goal.loop-number-preserved
-loop-number-preserved c =
-    c.in_ok-push_number-2.ensures
-    ∙ ap (λ n. c.loop-number.out.items ++ number_code n) c.from.ensures
-    ∙ each_turn number_code c.args.numbers.now c.loop-number.number-index _ c.push_number.new.out.items c.loop-number.out.items (omega arith)
-    c.loop-number.invariant
+loop-number-preserved c = grind (arith, each_turn)
 
 pub returns : goal.returns
 returns c =

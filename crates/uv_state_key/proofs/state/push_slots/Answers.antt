@@ -12,14 +12,7 @@ loop-number-preserved g c =
     let number = c.loop-number.number in
     let next : suc number ≡ number + 1 = omega arith in
     let below : number < length slots = omega (arith, c.loop-number-test.true, c.used-number-end.ensures) in
-    record {
-      items = c.in_ok-push_used.ensures.items
-          ∙ piece_turn slot_code slots number c.push_number.new.out.items c.loop-number.out.items c.loop-number.invariant.items;
-      holds = c.in_ok-push_used.ensures.holds
-          ∙ ap (λ holds. and_content holds (id_at slots number) (content_at slots number)) c.loop-number.invariant.holds
-          ∙ ap (λ n. holds_in slots n) next;
-      within = omega (arith, below);
-    }
+    grind (arith, piece_turn)
 
 pub returns-clause-items : goal.returns-clause-items
 returns-clause-items g c =

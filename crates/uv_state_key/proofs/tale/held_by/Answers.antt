@@ -9,12 +9,7 @@ loop-number-preserved g c =
     let number = c.loop-number.number in
     let next : suc number ≡ number + 1 = omega arith in
     let below : number < length slots = omega (arith, c.loop-number-test.true, c.used-number-end.ensures) in
-    record {
-      holds = c.add_slot.ensures
-          ∙ ap (λ holds. and_content holds (id_at slots number) (content_at slots number)) c.loop-number.invariant.holds
-          ∙ ap (λ n. holds_in slots n) next;
-      within = omega (arith, below);
-    }
+    grind arith
 
 pub returns : goal.returns
 returns g c =

@@ -16,4 +16,5 @@ returns-in_ok-at_least_text-in-Found-clause-told g c =
     let finds = rw c.in-Found.is at c.find_any.ensures.found in
     rw (c.in_ok-at_least_text-in-Found.ensures.text, c.steps.ensures, c.from.ensures)
     (tells_at_least i.script (asked_in i.asking) c.args.name c.args.ms c.requires.greatest c.requires.question c.args.late c.args.orders.now.rules
-    c.args.orders.now.spot c.find_any.new.orders.spot c.requires.rules c.requires.spot c.in-Found.field-0 finds)
+    c.args.orders.now.spot c.find_any.new.orders.spot c.requires.rules c.requires.spot
+    c.work_makes_no_difference.ensures.answers c.in-Found.field-0 finds)

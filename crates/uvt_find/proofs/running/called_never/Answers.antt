@@ -6,5 +6,6 @@ pub returns-in_ok-text-in-Some-clause-told : goal.returns-in_ok-text-in-Some-cla
 returns-in_ok-text-in-Some-clause-told c =
     let i = c.args.inquiry.now in
     rw c.in_ok-text-in-Some.ensures.text
-    (never_late i.script (asked_in i.asking) c.args.name c.args.ms c.requires.greatest c.requires.question c.in-Some.kept
+    (never_late i.script (asked_in i.asking) c.args.name c.args.ms c.requires.greatest c.requires.question
+    c.work_makes_no_difference.ensures.never c.in-Some.kept
     (rw (c.requires.none, c.in-Some.is) at c.requires.risen))

@@ -8,7 +8,7 @@ returns-in_ok-found_text-in-Found-clause-told g c =
     let finds = rw c.in-Found.is at c.find.ensures.found in
     rw (c.in_ok-found_text-in-Found.ensures.text, c.steps.ensures)
     (tells_found i.script (asked_in i.asking) c.args.orders.now.rules c.args.orders.now.spot c.find.new.orders.spot c.requires.rules c.requires.spot
-    c.in-Found.states finds)
+    c.work_makes_no_difference.ensures.answers c.in-Found.states finds)
 
 pub returns-in_ok-never_text-in-Never-clause-told : goal.returns-in_ok-never_text-in-Never-clause-told
 returns-in_ok-never_text-in-Never-clause-told g c =
@@ -16,7 +16,7 @@ returns-in_ok-never_text-in-Never-clause-told g c =
     let finds = rw c.in-Never.is at c.find.ensures.found in
     rw c.in_ok-never_text-in-Never.ensures.text
     (tells_never i.script (asked_in i.asking) c.args.orders.now.rules c.args.orders.now.spot c.find.new.orders.spot c.requires.rules c.requires.spot
-    c.in-Never.states finds)
+    c.work_makes_no_difference.ensures.never c.in-Never.states finds)
 
 pub returns-in_ok-unsettled_text-in-Unsettled-clause-told : goal.returns-in_ok-unsettled_text-in-Unsettled-clause-told
 returns-in_ok-unsettled_text-in-Unsettled-clause-told g c =
@@ -33,7 +33,7 @@ returns-in_ok-too_deep_text-in-TooDeep-clause-told g c =
     let finds = rw c.in-TooDeep.is at c.find.ensures.found in
     rw c.in_ok-too_deep_text-in-TooDeep.ensures.text
     (tells_deep i.script (asked_in i.asking) c.args.orders.now.rules c.args.orders.now.spot c.find.new.orders.spot c.requires.rules c.requires.spot
-    finds)
+    c.work_makes_no_difference.ensures.depth finds)
 
 pub returns-in_ok-out_of_memory_text-in-OutOfMemory-clause-told : goal.returns-in_ok-out_of_memory_text-in-OutOfMemory-clause-told
 returns-in_ok-out_of_memory_text-in-OutOfMemory-clause-told g c =

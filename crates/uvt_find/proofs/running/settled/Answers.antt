@@ -8,4 +8,5 @@ returns-in_ok-latest_text-in-Found-clause-told g c =
     let finds = rw c.in-Found.is at c.find.ensures.found in
     rw (c.in_ok-latest_text-in-Found.ensures.text, c.steps.ensures)
     (tells_latest i.script (asked_in i.asking) c.args.name c.args.ms c.requires.greatest c.requires.question c.args.late c.args.orders.now.rules
-    c.args.orders.now.spot c.find.new.orders.spot c.requires.rules c.requires.spot c.in-Found.field-0 c.args.kept finds c.requires.risen)
+    c.args.orders.now.spot c.find.new.orders.spot c.requires.rules c.requires.spot
+    c.work_makes_no_difference.ensures.answers c.work_makes_no_difference.ensures.never c.in-Found.field-0 c.args.kept finds c.requires.risen)

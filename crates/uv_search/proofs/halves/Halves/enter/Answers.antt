@@ -40,8 +40,7 @@ returns-clause-ok c =
     let kept = kept_twice parts c.enter.new.self more c.enter.ensures.kept c.enter-2.ensures.kept in
     let front = c.enter-2.ensures.kept c.in_ok-front.front _ (rw c.split_at.ensures.front at c.in_ok-front.ensures.ok) in
     let back = rw c.split_at.ensures.back at c.in_ok-back.ensures.ok in
-    if_ok_so c.enter-3.result
-    (λ n e. number_there more c.enter-3.new.self n c.in_ok-front.front c.in_ok-back.back c.args.bytes.now front back e) c.enter-3.ensures.ok
+    search (if_ok_so, number_there)
 
 pub returns-clause-kept : goal.returns-clause-kept
 returns-clause-kept c =

@@ -1,3 +1,0 @@
-pub mod Reduced
-pub mod Moved
-pub mod Steps

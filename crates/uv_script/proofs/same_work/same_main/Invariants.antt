@@ -1,0 +1,7 @@
+use Rattle.std.proofs.Common.{◌≡◌, ◌++◌, drop, map, take}
+use Rattle.uv_script.specs.SameWork.{same_main}
+use Rattle.uv_script.proofs.same_work.same_main.Given as goal
+
+-- those up to here are changed, and the others as they were
+abbrev pub invariant-loop-line : goal.invariant-loop-line
+invariant-loop-line l = l.lines ≡ map same_main (take l.line-index l.initial.lines) ++ drop l.line-index l.initial.lines

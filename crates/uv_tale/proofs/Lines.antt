@@ -1,0 +1,48 @@
+-- What a line tells, it tells in other slots, later, with slots that were freed more often, and of another worker.
+use Rattle.uv_alike.proofs.Names.{◌≡◌, ℕ, List, Option, Some, arith, Seen, Program, State}
+use Rattle.uv_tale.proofs.Names.{option_map, By, later, shift, Frees, more, arranged, Fits, held_arranged}
+use Rattle.uv_ids.specs.declared.seen.Seen.TheVariants as seen
+use Rattle.uv_work.specs.declared.content.Content.{Content}
+use Rattle.uv_shift.specs.Retimed.{retimed_content}
+use Rattle.uv_shift.specs.Shift.{shift_line}
+use Rattle.uv_shift.proofs.Slots.{held_shift}
+use Rattle.uv_generations.specs.More.{more_line}
+use Rattle.uv_generations.proofs.More.{rename, renamed_slots}
+use Rattle.uv_generations.proofs.Slots.{held_renamed}
+use Rattle.uv_workers.specs.Workers.{line_by}
+use Rattle.uv_slots.specs.Arranged.{arranged_line}
+use Rattle.uv_tale.specs.Alike.{holds_timer, calls_timer, told_line}
+
+pub told_arranged : (p : Program) (o : List ℕ) (line : Option Seen) →
+    option_map (told_line p) (option_map (arranged_line o) line) ≡ option_map (told_line p) line
+told_arranged p o line = grind arith
+
+pub calls_arranged : (o : List ℕ) (s : State) (line : Option Seen) → Fits o s.arena.slots →
+    calls_timer (arranged o s) (option_map (arranged_line o) line) ≡ calls_timer s line
+calls_arranged o s line fits = grind (arith, held_arranged)
+
+-- ---- later, and freed more often
+
+abbrev pub moved_line : Program → By → Frees → Option Seen → Option Seen
+moved_line p d k line = option_map (shift_line p d) (option_map (more_line k) line)
+
+pub told_moved : (p : Program) (d : By) (k : Frees) (line : Option Seen) →
+    option_map (told_line p) (moved_line p d k line) ≡ option_map (told_line p) line
+told_moved p d k line = grind arith
+
+timer_later : (d : By) (o : Option Content) → holds_timer (option_map (retimed_content (later d)) o) ≡ holds_timer o
+timer_later d o = grind arith
+
+pub calls_moved : (p : Program) (d : By) (k : Frees) (s : State) (line : Option Seen) →
+    calls_timer (shift d (more k s)) (moved_line p d k line) ≡ calls_timer s line
+calls_moved p d k s (Some (seen.Call v id)) = simp (held_shift, renamed_slots, rename, timer_later, held_renamed)
+calls_moved p d k s each = assumption
+
+-- ---- of another worker
+
+pub told_by : (p : Program) (j : ℕ) (line other : Option Seen) → option_map (told_line p) line ≡ option_map (told_line p) other →
+    option_map (told_line p) (option_map (line_by j) line) ≡ option_map (told_line p) (option_map (line_by j) other)
+told_by p j line other same = grind arith
+
+pub calls_by : (j : ℕ) (s : State) (line : Option Seen) → calls_timer s (option_map (line_by j) line) ≡ calls_timer s line
+calls_by j s line = grind arith

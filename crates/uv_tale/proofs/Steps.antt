@@ -1,0 +1,212 @@
+-- States of which the same is told go on alike: each goes on as its form does, and of the two forms the workers alone are others.
+use Rattle.uv_alike.proofs.Names.{◌≡◌, ℕ, ◌+◌, List, false, Option, refl, ap, sym, ◌∙◌, arith, length, slice_get, Event, Take, Finish, Seen, Program, State, Moves, Slots, Content}
+use Rattle.uv_tale.proofs.Names.{◌≤◌, subst, option_map, Next, Refuses, next, ClockFits, IsTimed, IsYoung, earliest, surplus, By, shift, Frees, more, IsOrder, arranged, buried, buried_next, Fits}
+use Rattle.uv_shift.specs.Shift.{shift_line, shift_next}
+use Rattle.uv_shift.specs.Earliest as early
+use Rattle.uv_shift.proofs.Base.{earliest_later}
+use Rattle.uv_shift.proofs.Alike.{earliest_next}
+use Rattle.uv_generations.specs.More.{more_line, more_next}
+use Rattle.uv_generations.proofs.Alike.{youngest_next}
+use Rattle.uv_generations.proofs.Early.{earliest_young}
+use Rattle.uv_names.specs.Counts.{AreBefore}
+use Rattle.uv_slots.specs.Arranged.{arranged_next}
+use Rattle.uv_slots.proofs.Buries.{names_buried}
+use Rattle.uv_slots.proofs.Grows.{HasUsed, next_grows}
+use Rattle.uv_slots.proofs.Arranging.{next_arranged}
+use Rattle.uv_alike.proofs.Kept.{StaysKept}
+use Rattle.uv_workers.specs.Workers.{is_of_worker, next_by, orderly, orderly_next}
+use Rattle.uv_workers.proofs.Steps as workers
+use Rattle.uv_tale.specs.Alike.{calls_timer, told_line, IsRegular, LeadsRegular, NextAlike}
+use Rattle.uv_tale.specs.Tale.{run_names, tale}
+use Rattle.uv_tale.proofs.Normal.{reduced, normal, settled}
+use Rattle.uv_tale.proofs.Aside.{aside_timed, aside_young, clock_same}
+use Rattle.uv_tale.proofs.Reduced.{reduced_next, next_reduced}
+use Rattle.uv_tale.proofs.Settled.{dead_of, order_in, fits_in, settled_timed, settled_young}
+use Rattle.uv_tale.proofs.Lines.{told_arranged, calls_arranged, told_moved, calls_moved, told_by, calls_by}
+use Rattle.uv_tale.proofs.Made.{place_id}
+use Rattle.uv_tale.proofs.Form.{run_made, tales_tell}
+use Rattle.uv_tale.proofs.Told.{tale_arranged, tale_buried, tale_later, tale_more, tale_orderly, tale_reduced}
+
+-- which line calls a timer, the slots tell
+calls_same : (a b : State) (line : Option Seen) → a.arena ≡ b.arena → calls_timer a line ≡ calls_timer b line
+calls_same a b line same = grind arith
+
+module _ (p : Program) (n : ℕ) where
+  abbrev Alike : State → State → Next → Next → Type 0
+  Alike s t x y = NextAlike (tale n) (told_line p) s t x y
+
+  -- ---- one of two, and a third
+
+  turned : (s t : State) (x y : Next) → Alike s t x y → Alike t s y x
+  turned s t (Moves a line) (Moves b other) h =
+      record { same = sym h.same; same_line = sym h.same_line; clocks = sym h.clocks; timers = sym h.timers }
+  turned s t (Refuses why) (Refuses other) h = sym h
+  turned s t (Moves a line) (Refuses other) h = absurd h
+  turned s t (Refuses why) (Moves b other) h = absurd h
+
+  joined : (s t u : State) (x y z : Next) → Alike s t x y → Alike t u y z → Alike s u x z
+  joined s t u (Moves a line) (Moves b other) (Moves c third) h k = record {
+    same = h.same ∙ k.same;
+    same_line = h.same_line ∙ k.same_line;
+    clocks = (let e = h.clocks in let f = k.clocks in omega (arith, e, f));
+    timers = h.timers ∙ k.timers;
+  }
+  joined s t u (Refuses why) (Refuses other) (Refuses third) h k = h ∙ k
+  joined s t u (Moves a line) (Moves b other) (Refuses third) h k = absurd k
+  joined s t u (Moves a line) (Refuses other) z h k = absurd h
+  joined s t u (Refuses why) (Moves b other) z h k = absurd h
+  joined s t u (Refuses why) (Refuses other) (Moves c third) h k = absurd k
+
+  by_worker : (s t : State) (j : ℕ) (x y : Next) → Alike s t x y → Alike s t (next_by j x) (next_by j y)
+  by_worker s t j (Moves a line) (Moves b other) h = record {
+    same = h.same;
+    same_line = told_by p j line other h.same_line;
+    clocks = h.clocks;
+    timers = calls_by j a line ∙ h.timers ∙ sym (calls_by j b other);
+  }
+  by_worker s t j (Refuses why) (Refuses other) h = h
+  by_worker s t j (Moves a line) (Refuses other) h = absurd h
+  by_worker s t j (Refuses why) (Moves b other) h = absurd h
+
+  -- ---- a state and its form
+
+  -- names forget in which slot that was which is gone
+  buried_alike : (s : State) (x y : Next) → LeadsRegular p x → buried_next (dead_of p) y ≡ buried_next (dead_of p) x →
+      Alike s (buried (dead_of p) s) x y
+  buried_alike s (Moves a line) (Moves b says) regular e =
+      let same : buried (dead_of p) b ≡ buried (dead_of p) a = cc in
+      let same_line : says ≡ line = cc in
+      let arena = ap (λ (u : State). u.arena) same in
+      let within = regular.buries.beyond in
+      record {
+        same = sym (tale_buried n (dead_of p) a within) ∙ ap (tale n) (sym same)
+            ∙ tale_buried n (dead_of p) b (subst (λ (it : Slots Content). length it.slots + it.unused ≤ dead_of p) (sym arena) within);
+        same_line = ap (option_map (told_line p)) (sym same_line);
+        clocks = (let clock = ap (λ (u : State). u.clock) same in omega (arith, clock));
+        timers = calls_same a b line (sym arena) ∙ ap (calls_timer b) (sym same_line);
+      }
+  buried_alike s (Refuses why) (Refuses other) regular e = (let same : other ≡ why = cc in sym same)
+  buried_alike s (Moves a line) (Refuses other) regular e = absurd (let f : ⊥ = cc in f)
+  buried_alike s (Refuses why) (Moves b says) regular e = absurd (let f : ⊥ = cc in f)
+
+  -- slots stand in another order
+  arranged_alike : (o : List ℕ) (s : State) (y : Next) → IsOrder o → StaysKept (HasUsed (length o)) y →
+      Alike s (arranged o s) y (arranged_next o y)
+  arranged_alike o s (Moves b says) order grows =
+      let fits : Fits o b.arena.slots = record { order = order; within = grows } in
+      record {
+        same = sym (tale_arranged n o b fits);
+        same_line = sym (told_arranged p o says);
+        clocks = refl;
+        timers = sym (calls_arranged o b says fits);
+      }
+  arranged_alike o s (Refuses why) order grows = refl
+
+  -- calls are counted up to a number, times are earlier, and slots were freed less often
+  moved_alike : (d : By) (k : Frees) (s u : State) (x y : Next) → s.clock ≡ u.clock + d.ms →
+      reduced_next n (shift_next p d (more_next k y)) ≡ reduced_next n x → Alike s u x y
+  moved_alike d k s u (Moves a line) (Moves b says) clock e =
+      let same : reduced n (shift d (more k b)) ≡ reduced n a = cc in
+      let same_line : option_map (shift_line p d) (option_map (more_line k) says) ≡ line = cc in
+      record {
+        same = sym (tale_reduced n a) ∙ ap (tale n) (sym same) ∙ tale_reduced n (shift d (more k b)) ∙ tale_later n d (more k b) ∙ tale_more n k b;
+        same_line = ap (option_map (told_line p)) (sym same_line) ∙ told_moved p d k says;
+        clocks = (let after = ap (λ (v : State). v.clock) same in omega (arith, clock, after));
+        timers = calls_same a (shift d (more k b)) line (ap (λ (v : State). v.arena) (sym same))
+            ∙ ap (calls_timer (shift d (more k b))) (sym same_line) ∙ calls_moved p d k b says;
+      }
+  moved_alike d k s u (Refuses why) (Refuses other) clock e = (let same : other ≡ why = cc in sym same)
+  moved_alike d k s u (Moves a line) (Refuses other) clock e = absurd (let f : ⊥ = cc in f)
+  moved_alike d k s u (Refuses why) (Moves b says) clock e = absurd (let f : ⊥ = cc in f)
+
+  normal_alike : (s : State) (e : Event) → AreBefore n p → IsTimed p s → IsYoung p s → ClockFits s e →
+      Alike s (normal n s) (next p s e) (next p (normal n s) e)
+  normal_alike s e before timed young fits =
+      let r = reduced n s in
+      let d = early.base r in
+      let k = surplus (earliest r) in
+      let old = aside_timed p s r timed in
+      let fresh = earliest_young p r old (aside_young p s r young) in
+      moved_alike d k s (normal n s) (next p s e) (next p (normal n s) e) (ap (λ (x : State). x.clock) (sym (earliest_later r old.timers)))
+      (ap (λ x. reduced_next n (shift_next p d x)) (sym (youngest_next p (earliest r) e fresh))
+      ∙ ap (reduced_next n) (sym (earliest_next p r e old (clock_same s r e refl fits)))
+      ∙ next_reduced n p s e before)
+
+  form_alike : (s : State) (e : Event) → AreBefore n p → IsRegular p s → ClockFits s e → LeadsRegular p (next p s e) →
+      Alike s (normal n (settled p s)) (next p s e) (next p (normal n (settled p s)) e)
+  form_alike s e before regular fits leads =
+      let u = buried (dead_of p) s in
+      let o = order_in p s in
+      let v = settled p s in
+      let x = next p s e in
+      let y = next p u e in
+      let z = next p v e in
+      let w = next p (normal n v) e in
+      let stands = fits_in p s regular in
+      joined s u (normal n v) x y w (buried_alike s x y leads (names_buried p (dead_of p) s e regular.buries))
+      (joined u v (normal n v) y z w
+      (subst (Alike u v y) (sym (next_arranged p o u e stands)) (arranged_alike o u y stands.order (next_grows p (length o) u e stands.within)))
+      (normal_alike v e before (settled_timed p s regular) (settled_young p s regular) (clock_same s v e refl fits)))
+
+  -- ---- workers run the same, whichever of them runs which
+
+  orderly_alike : (s t : State) (x y : Next) → s.clock ≡ t.clock → orderly_next x ≡ orderly_next y → Alike s t x y
+  orderly_alike s t (Moves a line) (Moves b other) clock e =
+      let same : orderly a ≡ orderly b = cc in
+      let same_line : line ≡ other = cc in
+      record {
+        same = sym (tale_orderly n a) ∙ ap (tale n) same ∙ tale_orderly n b;
+        same_line = ap (option_map (told_line p)) same_line;
+        clocks = (let after = ap (λ (v : State). v.clock) same in omega (arith, clock, after));
+        timers = calls_same a b line (ap (λ (v : State). v.arena) same) ∙ ap (calls_timer b) same_line;
+      }
+  orderly_alike s t (Refuses why) (Refuses other) clock e = (let same : why ≡ other = cc in same)
+  orderly_alike s t (Moves a line) (Refuses other) clock e = absurd (let f : ⊥ = cc in f)
+  orderly_alike s t (Refuses why) (Moves b other) clock e = absurd (let f : ⊥ = cc in f)
+
+  -- ---- the laws
+
+  module _ (s t : State) (before : AreBefore n p) (regular : IsRegular p s) (good : IsRegular p t) (same : tale n s ≡ tale n t) where
+    abbrev a : State
+    a = normal n (settled p s)
+
+    abbrev b : State
+    b = normal n (settled p t)
+
+    form : orderly a ≡ orderly b
+    form = tales_tell p n s t regular good same
+
+    -- a step of the one, and of its form; and a step of the other, whose form takes it as that one did
+    between : (f : Event) (x y : Next) → Alike s a x y → orderly_next y ≡ orderly_next (next p b f) → ClockFits t f →
+        LeadsRegular p (next p t f) → Alike s t x (next p t f)
+    between f x y here alike fits leads =
+        joined s a t x y (next p t f) here
+        (joined a b t y (next p b f) (next p t f) (orderly_alike a b y (next p b f) (ap (λ (u : State). u.clock) form) alike)
+        (turned t b (next p t f) (next p b f) (form_alike t f before good fits leads)))
+
+    pub others_alike : (e : Event) → is_of_worker e ≡ false → ClockFits s e → ClockFits t e → LeadsRegular p (next p s e) →
+        LeadsRegular p (next p t e) → Alike s t (next p s e) (next p t e)
+    others_alike e other fits too leads goes =
+        between e (next p s e) (next p a e) (form_alike s e before regular fits leads) (workers.others_alike p a b e other form) too goes
+
+    -- workers that run the same by name run the same in the forms
+    runs_alike : (k j : ℕ) → slice_get (run_names s.arena.slots s.running) k ≡ slice_get (run_names t.arena.slots t.running) j →
+        slice_get a.running k ≡ slice_get b.running j
+    runs_alike k j here = run_made p n s regular k
+        ∙ (λ i. option_map (option_map (place_id (same i).names)) (here i)) ∙ sym (run_made p n t good j)
+
+    pub takes_alike : (k j : ℕ) → slice_get (run_names s.arena.slots s.running) k ≡ slice_get (run_names t.arena.slots t.running) j →
+        LeadsRegular p (next p s (Take k)) → LeadsRegular p (next p t (Take j)) →
+        Alike s t (next_by j (next p s (Take k))) (next p t (Take j))
+    takes_alike k j here leads goes =
+        between (Take j) (next_by j (next p s (Take k))) (next_by j (next p a (Take k)))
+        (by_worker s a j (next p s (Take k)) (next p a (Take k)) (form_alike s (Take k) before regular tt leads))
+        (sym (workers.takes_alike p a b k j form (runs_alike k j here))) tt goes
+
+    pub finishes_alike : (k j : ℕ) → slice_get (run_names s.arena.slots s.running) k ≡ slice_get (run_names t.arena.slots t.running) j →
+        LeadsRegular p (next p s (Finish k)) → LeadsRegular p (next p t (Finish j)) →
+        Alike s t (next_by j (next p s (Finish k))) (next p t (Finish j))
+    finishes_alike k j here leads goes =
+        between (Finish j) (next_by j (next p s (Finish k))) (next_by j (next p a (Finish k)))
+        (by_worker s a j (next p s (Finish k)) (next p a (Finish k)) (form_alike s (Finish k) before regular tt leads))
+        (sym (workers.finishes_alike p a b k j form (runs_alike k j here))) tt goes
