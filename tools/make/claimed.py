@@ -115,8 +115,9 @@ CLAIMS = (
     ),
     Claim(
         "States that are the same except for which worker runs which request go on alike, with lines that are the same except for workers' "
-        "numbers.",
-        "uv_workers/laws.others_alike.alike uv_workers/laws.takes_alike.alike uv_workers/laws.finishes_alike.alike",
+        "numbers; and so do states with the same pooled form, where their times fit and their slots are young (`IsTimed`, `IsYoung`).",
+        "uv_workers/laws.others_alike.alike uv_workers/laws.takes_alike.alike uv_workers/laws.finishes_alike.alike "
+        "uv_tale/laws.pooled_others_alike uv_tale/laws.pooled_takes_alike uv_tale/laws.pooled_finishes_alike",
     ),
     Claim(
         "What the search's program writes is the answer to what its input asks, where the bytes of its reader and its writer are known, as "

@@ -1,9 +1,7 @@
 -- A change that keeps every count: a step from the changed state is the changed step.
-use Rattle.uv_alike.proofs.Names.{◌≡◌, ◌∙◌, refl, ap, ap₂, Option, Some, Var, State, Program, Named, named, with_named, counted, count_of, Body, Run, Running, Seen, Event, Loop, Callback, Moves}
+use Rattle.uv_alike.proofs.Names.{◌≡◌, ◌∙◌, refl, ap, ap₂, Option, Some, Var, State, Program, Named, named, with_named, counted, count_of, Body, Run, Running, Seen, Event, Loop, Callback, Moves, Change, Comes, changed, changed_run, changed_line, changed_event, changed_next, changed_program, Hides, IsWhole, SeesAlike, IsExact}
 use Rattle.uv_model.specs.Next as steps
 use Rattle.uv_model.specs.Next.{next}
-use Rattle.uv_alike.specs.Changed.{Change, Comes, changed, changed_run, changed_line, changed_event, changed_next, changed_program}
-use Rattle.uv_alike.specs.Hides.{Hides, IsWhole, SeesAlike, IsExact}
 use Rattle.uv_alike.proofs.Ops.{Reads}
 use Rattle.uv_alike.proofs.Walk.{loop_alike, next_alike}
 

@@ -1,26 +1,16 @@
 -- What each change of a state's names and slots keeps, each step keeps: the tree of the steps is walked here, once.
-use Rattle.uv_alike.proofs.Names.{◌≡◌, ℕ, ◌+◌, List, length, drop, true, false, Option, Some, None, Result, Ok, Err, arith, refl, ap, nat_le, nat_lt, ◌==◌, slice_get, slice_set, Id, Var, Kind, Code, Event, Loop, Take, Finish, Cancel, Send, Io, Tick, Why, Op, MainOp, CallbackLine, Callback, HandleRecord, WatcherKind, Slot, Slots, Content, Request, Named, Program, arena_size, order_of, from_heap, lines_in, State, found_or, front, front_request, watched, with_handle, with_named, with_request, handle, request, handle_in, request_in, live, live_handle, live_request, named, refreshed, stopped, restarted, freed, taken, next_free, held, inited, repeating, referenced_as, activated, is_async, queued, watcher_kind, start_timer_refusal, start_watcher_refusal, stop_refusal, again_refusal, timer_refusal, close_refusal, no_refusal, send_refusal, same_id, list_any, Body, Run, Stage, Entry, Pending, Walking, Poll, Polled, Done, DoneUnwoken, Closing, Timers, TimersOf, Timing, Collecting, Firing, Turn, AtEntry, Behind, BehindClosing, Way, ToTimers, ToPending, ToEnd, Place, Main, Running, Moves, do_op}
-use Rattle.std.proofs.lemmas.Bool.{cond_both}
-use Rattle.std.proofs.lemmas.Grind.{elements}
+use Rattle.uv_alike.proofs.Names.{◌≡◌, ℕ, ◌+◌, List, length, drop, true, false, Option, Some, None, Result, Ok, Err, arith, refl, ap, nat_le, nat_lt, ◌==◌, slice_get, slice_set, Id, Var, Kind, Code, Event, Loop, Take, Finish, Cancel, Send, Io, Tick, Why, Op, MainOp, CallbackLine, Callback, HandleRecord, WatcherKind, Slot, Slots, Content, Request, Named, Program, arena_size, order_of, from_heap, lines_in, State, found_or, front, front_request, watched, with_handle, with_named, with_request, handle, request, handle_in, request_in, live, live_handle, live_request, named, refreshed, stopped, restarted, freed, taken, next_free, held, inited, repeating, referenced_as, activated, is_async, queued, watcher_kind, start_timer_refusal, start_watcher_refusal, stop_refusal, again_refusal, timer_refusal, close_refusal, no_refusal, send_refusal, same_id, list_any, Body, Run, Stage, Entry, Pending, Walking, Poll, Polled, Done, DoneUnwoken, Closing, Timers, TimersOf, Timing, Collecting, Firing, Turn, AtEntry, Behind, BehindClosing, Way, ToTimers, ToPending, ToEnd, Place, Main, Running, Moves, do_op, Site, Calls, with_held, op_at, op_name, main_op, option_map, ◌⊎◌, inl, inr, LATEST, Coded, send, cancel, Next, Refuses, take, cond_both, elements}
 use Rattle.uv_ids.specs.declared.seen.Callback.TheVariants as callback
-use Rattle.uv_ids.specs.declared.seen.Site.{Site}
 use Rattle.uv_ids.specs.declared.seen.Site.TheVariants as site
-use Rattle.uv_records.specs.declared.named.Calls.{Calls}
 use Rattle.uv_records.specs.declared.lists.WatcherKind.TheVariants as watcher
 use Rattle.uv_records.specs.Handles as records
 use Rattle.uv_records.specs.Names as names
-use Rattle.uv_records.specs.Slots.{with_held}
-use Rattle.uv_script.specs.Program.{op_at, op_name, main_op}
-use Rattle.std.specs.Prelude.{option_map, ◌⊎◌}
-use Rattle.std.proofs.Common.{inl, inr}
 use Rattle.uv_script.specs.declared.op.Op.TheVariants as op
 use Rattle.uv_script.specs.declared.op.MainOp.TheVariants as main
 use Rattle.uv_work.specs.declared.content.Content.TheVariants as content
-use Rattle.uv_model.specs.Limits.{LATEST}
 use Rattle.uv_model.specs.Ops as ops
-use Rattle.uv_model.specs.Ops.{Coded, send, cancel}
 use Rattle.uv_model.specs.Next as steps
-use Rattle.uv_model.specs.Next.{Next, Refuses, next, take}
+use Rattle.uv_model.specs.Next.{next}
 use Rattle.uv_model.proofs.Found.{found_both}
 use Rattle.uv_alike.proofs.Ops.{first_due_held, front_held, live_held, request_held as front_request_held}
 use Rattle.uv_alike.specs.Contents.{name_in}

@@ -1,8 +1,5 @@
 -- Slots whose contents are changed, each by one function, under the same ids.
-use Rattle.uv_alike.proofs.Names.{◌≡◌, ◌∙◌, ◌==◌, ℕ, ◌+◌, List, [], ◌∷◌, arith, refl, ap, sym, Option, Some, None, Id, Slot, Slots, Content, State, held, with_held, live_id, with_id, next_free, next_id, taken, taken_from, freed}
-use Rattle.std.specs.Prelude.{map, option_map}
-use Rattle.std.proofs.lemmas.List.{length-map, map-append, map-set}
-use Rattle.std.proofs.lemmas.Option.{slice_get-map}
+use Rattle.uv_alike.proofs.Names.{◌≡◌, ◌∙◌, ◌==◌, ℕ, ◌+◌, List, [], ◌∷◌, arith, refl, ap, sym, Option, Some, None, Id, Slot, Slots, Content, State, held, with_held, live_id, with_id, next_free, next_id, taken, taken_from, freed, map, option_map, length-map, map-append, map-set, slice_get-map}
 use Rattle.uv_alike.proofs.Cases.{if_shift}
 use Rattle.uv_alike.proofs.Same.{option_same}
 

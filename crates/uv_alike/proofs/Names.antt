@@ -1,32 +1,19 @@
 -- The names that proofs of this crate bring in.
-pub use Rattle.std.proofs.Common.{Bool, Err, List, None, Ok, Option, Result, Some, [], ap, ap₂, arith, drop, false, if◌then◌else◌, length, nat_le, nat_lt, not}
-pub use Rattle.std.proofs.Common.{option_and_then, refl, slice_get, slice_set, suc, sym, true}
-pub use Rattle.std.proofs.Common.{zero, ℕ, ◌&&◌, ◌++◌, ◌+◌, ◌<◌, ◌==◌, ◌∙◌, ◌∷◌, ◌≡◌}
-pub use Rattle.std.specs.List.{list_any}
-pub use Rattle.std.specs.Ordering.{match_ordering}
-pub use Rattle.std.specs.declared.cmp.Ordering.{Ordering}
-pub use Rattle.std.specs.declared.cmp.Ordering.TheVariants.{Equal, Greater, Less}
-pub use Rattle.uv_ids.specs.Due.{due_cmp}
-pub use Rattle.uv_ids.specs.declared.code.Code.{Code}
-pub use Rattle.uv_ids.specs.declared.due.Due.{Due}
-pub use Rattle.uv_ids.specs.declared.event.Event.{Event}
-pub use Rattle.uv_ids.specs.declared.event.Event.TheVariants.{Cancel, Finish, Io, Loop, Send, Take, Tick}
-pub use Rattle.uv_ids.specs.declared.fault.Why.{Why}
-pub use Rattle.uv_ids.specs.declared.id.Id.{Id}
-pub use Rattle.uv_ids.specs.declared.id.Var.{Var}
-pub use Rattle.uv_ids.specs.declared.order.Order.{Order}
-pub use Rattle.uv_ids.specs.declared.order.Order.TheVariants.{V144, V145}
-pub use Rattle.uv_ids.specs.declared.phase.Kind.{Kind}
-pub use Rattle.uv_ids.specs.declared.seen.Callback.{Callback}
-pub use Rattle.uv_ids.specs.declared.seen.Seen.{Seen}
-pub use Rattle.uv_model.specs.Content.{handle_in, request_in}
-pub use Rattle.uv_model.specs.Found.{found_or}
-pub use Rattle.uv_model.specs.Ids.{same_id, without_id}
-pub use Rattle.uv_model.specs.Next.{Moves}
-pub use Rattle.uv_model.specs.Ops.{do_op, refuses}
-pub use Rattle.uv_model.specs.State.{State, as_handle, as_request, front, front_request, handle, live, live_handle, live_id, live_request, named}
-pub use Rattle.uv_model.specs.State.{refreshed, request, watched, with_handle, with_id, with_named, with_request, with_watched}
-pub use Rattle.uv_model.specs.Timers.{due_after, restarted, started, stopped, taken_off, with_timer, without_timer}
+pub use Rattle.uv_model.proofs.Names.{Blocked, Bool, Callback, CallbackLine, Calls, Cancel, Cancelled, Code, Content, Due, Equal, Err, Event, Finish, Finished, Greater, HandleRecord, Id, IdleWorker, Io, Kind, Less, List, Loop, MainOp, Moves, Named, Next, None, Ok, Op, Option, Order, Ordering, Outcome, Program, Refuses, Request, Result, Seen, Send, Slot, Slots, Some, State, Take, Task, Tick, V144, V145, Var, Walk, WatcherKind, Why, [], activated, again_refusal, all_yet, ap, arena_size, arith, as_handle, as_request, close_refusal, collected, cond_both, count_of, counted, digest_in, do_op, drop, due_cmp, elements, false, first_due, found_or, freed, from_heap, front, front_request, handle, handle_in, has_io, held, held_in, if◌then◌else◌, inited, invalid_if, is_async, is_startable, is_timer, length, lines_in, list_any, live, live_handle, live_id, live_request, match_ordering, named, nat_le, nat_lt, next_free, no_refusal, only_if, option_and_then, order_of, queued, referenced_as, refl, refreshed, refuses, repeating, request, request_in, restarted, same_id, send_refusal, slice_get, slice_set, start_timer_refusal, start_watcher_refusal, started, stop_refusal, stopped, suc, sym, taken, taken_from, taken_off, text_of, timer_refusal, true, unbound, watched, watcher_kind, with_first, with_handle, with_id, with_last, with_named, with_request, with_timer, with_watched, without_id, without_timer, zero, ℕ, ◌&&◌, ◌++◌, ◌+◌, ◌<◌, ◌==◌, ◌∙◌, ◌∷◌, ◌≡◌}
+pub use Rattle.uv_script.proofs.ProofNames.{Mode, ap₂, inl, inr, length-map, main_op, map, map-append, min, not, op_at, op_name, option_map, slice_get-map, ◌-◌, ◌||◌, ◌⊎◌}
+pub use Rattle.std.proofs.Common.{is_some}
+pub use Rattle.std.proofs.lemmas.List.{drop-map, map-set, set-set}
+pub use Rattle.uv_alike.specs.Asks.{cancels, cancels_at, cancels_line, cancels_main, cancels_op, cancels_run, line_reads_clock, main_reads_clock, op_reads_clock, place_asks_done, place_reads_clock, reads_clock, run_asks_done, run_reads_clock, stage_asks_done, stage_reads_clock}
+pub use Rattle.uv_alike.specs.Changed.{Change, Comes, changed, changed_answer, changed_arena, changed_body, changed_callback, changed_content, changed_entry, changed_event, changed_handle, changed_job, changed_line, changed_live, changed_main, changed_next, changed_op, changed_pair, changed_place, changed_program, changed_request, changed_run, changed_stage, changed_walk, same}
+pub use Rattle.uv_alike.specs.Hides.{Hides, IsExact, IsWhole, IsWork, SeesAlike}
+pub use Rattle.uv_ids.specs.declared.phase.Mode.TheVariants.{Default, Nowait, Once}
+pub use Rattle.uv_ids.specs.declared.seen.Site.{Site}
+pub use Rattle.uv_model.specs.Ids.{has_some}
+pub use Rattle.uv_model.specs.Limits.{LATEST, LONGEST_POLL}
+pub use Rattle.uv_model.specs.Next.{take}
+pub use Rattle.uv_model.specs.Ops.{Coded, cancel, send}
+pub use Rattle.uv_model.specs.Timeout.{backend_timeout, deadline_of, has_closing, has_idle, has_passed, is_alive, poll_timeout, until_first}
+pub use Rattle.uv_model.specs.Timers.{due_after}
 pub use Rattle.uv_model.specs.declared.place.Body.{Body}
 pub use Rattle.uv_model.specs.declared.place.Place.{Place}
 pub use Rattle.uv_model.specs.declared.place.Place.TheVariants.{Main, Running}
@@ -40,22 +27,5 @@ pub use Rattle.uv_model.specs.declared.place.Turn.{Turn}
 pub use Rattle.uv_model.specs.declared.place.Turn.TheVariants.{AtEntry, Behind, BehindClosing}
 pub use Rattle.uv_model.specs.declared.place.Way.{Way}
 pub use Rattle.uv_model.specs.declared.place.Way.TheVariants.{ToEnd, ToPending, ToTimers}
-pub use Rattle.uv_records.specs.Handles.{activated, begun_at, inited, is_async, referenced_as, repeating}
-pub use Rattle.uv_records.specs.Lists.{watcher_kind}
-pub use Rattle.uv_records.specs.Names.{count_of, counted, unbound}
-pub use Rattle.uv_records.specs.Refusals.{again_refusal, close_refusal, no_refusal, send_refusal, start_timer_refusal, start_watcher_refusal, stop_refusal, timer_refusal}
-pub use Rattle.uv_records.specs.Slots.{Slots, freed, held, held_in, id_of, next_free, next_id, taken, taken_from, with_held}
-pub use Rattle.uv_records.specs.Walks.{with_first, with_last}
-pub use Rattle.uv_records.specs.declared.handle.HandleRecord.{HandleRecord}
-pub use Rattle.uv_records.specs.declared.lists.WatcherKind.{WatcherKind}
-pub use Rattle.uv_records.specs.declared.named.Named.{Named}
-pub use Rattle.uv_records.specs.declared.slot.Slot.{Slot}
-pub use Rattle.uv_script.specs.Program.{Program, arena_size, from_heap, has_io, lines_in, order_of}
-pub use Rattle.uv_script.specs.declared.op.CallbackLine.{CallbackLine}
-pub use Rattle.uv_script.specs.declared.op.MainOp.{MainOp}
-pub use Rattle.uv_script.specs.declared.op.Op.{Op}
-pub use Rattle.uv_work.specs.Requests.{queued}
-pub use Rattle.uv_work.specs.declared.content.Content.{Content}
-pub use Rattle.uv_work.specs.declared.outcome.Outcome.{Outcome}
-pub use Rattle.uv_work.specs.declared.request.Request.{Request}
-pub use Rattle.uv_work.specs.declared.task.Task.{Task}
+pub use Rattle.uv_records.specs.Handles.{begun_at}
+pub use Rattle.uv_records.specs.Slots.{id_of, next_id, with_held}

@@ -1,34 +1,17 @@
 -- What the parts of a step are from a changed state: who is found, what is put, timers, names, and each op.
-use Rattle.uv_alike.proofs.Names.{if◌then◌else◌, ◌≡◌, ◌++◌, ℕ, ◌+◌, ◌==◌, ◌&&◌, List, [], ◌∷◌, drop, Bool, true, false, Option, Some, None, Result, Ok, Err, refl, ap, ap₂, sym, ◌∙◌, arith, nat_le, list_any, Id, Due, due_cmp, match_ordering, Ordering, Less, Equal, Greater, Var, Kind, Code, Slots, Content, State, Program, HandleRecord, Request, Outcome, Task, WatcherKind, Op, same_id, without_id, handle, request, handle_in, request_in, held, front, front_request, with_id, with_held, with_handle, with_request, named, live, live_handle, live_request, live_id, as_handle, as_request, with_timer, without_timer, taken_off, stopped, started, restarted, begun_at, found_or, is_async, inited, activated, repeating, referenced_as, watcher_kind, no_refusal, timer_refusal, start_timer_refusal, start_watcher_refusal, stop_refusal, again_refusal, close_refusal, send_refusal, with_first, with_last, queued, next_free, taken, freed, arena_size, with_watched, watched, refreshed, refuses, do_op}
-use Rattle.std.specs.Prelude.{◌||◌, ◌-◌, map, option_map, is_some, min}
+use Rattle.uv_alike.proofs.Names.{if◌then◌else◌, ◌≡◌, ◌++◌, ℕ, ◌+◌, ◌==◌, ◌&&◌, List, [], ◌∷◌, drop, Bool, true, false, Option, Some, None, Result, Ok, Err, refl, ap, ap₂, sym, ◌∙◌, arith, nat_le, list_any, Id, Due, due_cmp, match_ordering, Ordering, Less, Equal, Greater, Var, Kind, Code, Slots, Content, State, Program, HandleRecord, Request, Outcome, Task, WatcherKind, Op, same_id, without_id, handle, request, handle_in, request_in, held, front, front_request, with_id, with_held, with_handle, with_request, named, live, live_handle, live_request, live_id, as_handle, as_request, with_timer, without_timer, taken_off, stopped, started, restarted, begun_at, found_or, is_async, inited, activated, repeating, referenced_as, watcher_kind, no_refusal, timer_refusal, start_timer_refusal, start_watcher_refusal, stop_refusal, again_refusal, close_refusal, send_refusal, with_first, with_last, queued, next_free, taken, freed, arena_size, with_watched, watched, refreshed, refuses, do_op, ◌||◌, ◌-◌, map, option_map, is_some, min, drop-map, map-append, set-set, Mode, Default, Once, Nowait, Site, op_at, only_if, is_startable, invalid_if, is_timer, Cancelled, has_some, LONGEST_POLL, is_alive, has_closing, has_idle, until_first, backend_timeout, poll_timeout, deadline_of, has_passed, Coded, first_due, collected, Change, changed, changed_handle, changed_request, changed_content, changed_entry, changed_pair, changed_job, changed_live, changed_arena, changed_walk, changed_op, changed_answer, cancels, cancels_op, place_asks_done, reads_clock, op_reads_clock, Hides, IsWhole}
 use Rattle.std.specs.BTreeMap.{is_at}
-use Rattle.std.proofs.lemmas.List.{drop-map, map-append, set-set}
-use Rattle.uv_ids.specs.declared.phase.Mode.{Mode}
-use Rattle.uv_ids.specs.declared.phase.Mode.TheVariants.{Default, Once, Nowait}
 use Rattle.uv_ids.specs.declared.code.Answer.TheVariants as answer
 use Rattle.uv_ids.specs.declared.code.Code.TheVariants.{Ok as Success, Efull}
-use Rattle.uv_ids.specs.declared.seen.Site.{Site}
 use Rattle.uv_script.specs.declared.op.Op.TheVariants as op
-use Rattle.uv_script.specs.Program.{op_at}
 use Rattle.uv_records.specs.Dues as dues
-use Rattle.uv_records.specs.Refusals.{only_if, is_startable, invalid_if}
 use Rattle.uv_records.specs.Dues.{due_after}
 use Rattle.uv_records.specs.Handles as records
-use Rattle.uv_records.specs.Handles.{is_timer}
 use Rattle.uv_records.specs.declared.lists.WatcherKind.TheVariants as watcher
 use Rattle.uv_work.specs.declared.content.Content.TheVariants as content
-use Rattle.uv_work.specs.declared.outcome.Outcome.TheVariants.{Cancelled}
-use Rattle.uv_model.specs.Ids.{has_some}
-use Rattle.uv_model.specs.Limits.{LONGEST_POLL}
-use Rattle.uv_model.specs.Timeout.{is_alive, has_closing, has_idle, until_first, backend_timeout, poll_timeout, deadline_of, has_passed}
 use Rattle.uv_model.specs.Ops as ops
-use Rattle.uv_model.specs.Ops.{Coded}
 use Rattle.uv_model.specs.Next as steps
-use Rattle.uv_model.specs.Next.{first_due, collected}
 use Rattle.uv_alike.proofs.Cases.{if_shift}
-use Rattle.uv_alike.specs.Changed.{Change, changed, changed_handle, changed_request, changed_content, changed_entry, changed_pair, changed_job, changed_live, changed_arena, changed_walk, changed_op, changed_answer}
-use Rattle.uv_alike.specs.Asks.{cancels, cancels_op, place_asks_done, reads_clock, op_reads_clock}
-use Rattle.uv_alike.specs.Hides.{Hides, IsWhole}
 
 -- ---- what is found, and found changed
 

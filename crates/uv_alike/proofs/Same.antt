@@ -1,11 +1,7 @@
 -- What a change leaves as it is: names, or ids, or the lines of calls.
-use Rattle.uv_alike.proofs.Names.{◌≡◌, List, [], ◌∷◌, Option, Some, None, refl, ap, sym, arith, Id, Stage, Poll, Var, Op, MainOp, CallbackLine, Event, Loop, Take, Finish, Cancel, Send, Io, Tick, Slot, Content, Task, list_any, Bool, ap₂, ℕ, State, slice_get, slice_set}
-use Rattle.std.specs.Prelude.{◌||◌, map, option_map}
-use Rattle.uv_records.specs.Walks.{Walk}
+use Rattle.uv_alike.proofs.Names.{◌≡◌, List, [], ◌∷◌, Option, Some, None, refl, ap, sym, arith, Id, Stage, Poll, Var, Op, MainOp, CallbackLine, Event, Loop, Take, Finish, Cancel, Send, Io, Tick, Slot, Content, Task, list_any, Bool, ap₂, ℕ, State, slice_get, slice_set, ◌||◌, map, option_map, Walk, IsWork, Change, same, changed, changed_stage, changed_walk, changed_op, changed_callback, changed_main, changed_event}
 use Rattle.uv_script.specs.declared.op.Op.TheVariants as op
 use Rattle.uv_script.specs.declared.op.MainOp.TheVariants as main
-use Rattle.uv_alike.specs.Hides.{IsWork}
-use Rattle.uv_alike.specs.Changed.{Change, same, changed, changed_stage, changed_walk, changed_op, changed_callback, changed_main, changed_event}
 
 pub option_same : {X : Type 0} (f : X → X) → ((x : X) → f x ≡ x) → (o : Option X) → option_map f o ≡ o
 option_same f same o = grind arith

@@ -1,35 +1,20 @@
 -- One walk through the rows of `next`: each row from a changed state is that row from the state itself, so changed.
-use Rattle.uv_alike.proofs.Names.{if◌then◌else◌, Program, State, ◌≡◌, ℕ, ◌+◌, ◌==◌, ◌&&◌, List, drop, length, Bool, true, false, Option, Some, None, Result, Ok, Err, refl, ap, ap₂, sym, ◌∙◌, arith, not, nat_le, nat_lt, slice_get, slice_set, Id, Order, V144, V145, Var, Code, Seen, Event, Loop, Take, Finish, Cancel, Send, Io, Tick, Why, Slots, Content, order_of, from_heap, arena_size, has_io, lines_in, HandleRecord, Request, WatcherKind, MainOp, CallbackLine, request, front, front_request, with_id, with_handle, live_handle, live_request, taken_off, stopped, started, restarted, found_or, freed, with_watched, watched, refreshed, do_op, Body, Run, Stage, Entry, Pending, Walking, Poll, Polled, Done, DoneUnwoken, Closing, Timers, TimersOf, Timing, Collecting, Firing, Turn, AtEntry, Behind, BehindClosing, Way, ToTimers, ToPending, ToEnd, Place, Main, Running, Moves}
-use Rattle.std.specs.Prelude.{◌||◌, map, option_map}
-use Rattle.std.proofs.lemmas.List.{drop-map, map-append}
-use Rattle.uv_ids.specs.declared.phase.Mode.{Mode}
-use Rattle.uv_ids.specs.declared.phase.Mode.TheVariants.{Default, Once, Nowait}
+use Rattle.uv_alike.proofs.Names.{if◌then◌else◌, Program, State, ◌≡◌, ℕ, ◌+◌, ◌==◌, ◌&&◌, List, drop, length, Bool, true, false, Option, Some, None, Result, Ok, Err, refl, ap, ap₂, sym, ◌∙◌, arith, not, nat_le, nat_lt, slice_get, slice_set, Id, Order, V144, V145, Var, Code, Seen, Event, Loop, Take, Finish, Cancel, Send, Io, Tick, Why, Slots, Content, order_of, from_heap, arena_size, has_io, lines_in, HandleRecord, Request, WatcherKind, MainOp, CallbackLine, request, front, front_request, with_id, with_handle, live_handle, live_request, taken_off, stopped, started, restarted, found_or, freed, with_watched, watched, refreshed, do_op, Body, Run, Stage, Entry, Pending, Walking, Poll, Polled, Done, DoneUnwoken, Closing, Timers, TimersOf, Timing, Collecting, Firing, Turn, AtEntry, Behind, BehindClosing, Way, ToTimers, ToPending, ToEnd, Place, Main, Running, Moves, ◌||◌, map, option_map, drop-map, map-append, Mode, Default, Once, Nowait, main_op, all_yet, digest_in, Finished, LATEST, is_alive, poll_timeout, deadline_of, Coded, Next, Refuses, first_due, collected, Change, changed, changed_handle, changed_request, changed_entry, changed_pair, changed_job, changed_line, changed_run, changed_place, changed_stage, changed_body, changed_walk, changed_callback, changed_main, changed_event, changed_answer, changed_program, Comes, Hides, IsWhole, SeesAlike, cancels_at, cancels_line, cancels_main, cancels_run, place_asks_done, run_asks_done, stage_asks_done, place_reads_clock, line_reads_clock, main_reads_clock, run_reads_clock, stage_reads_clock, Blocked, IdleWorker, text_of}
 use Rattle.uv_ids.specs.declared.phase.Phase.{Phase}
 use Rattle.uv_ids.specs.declared.phase.Phase.TheVariants as phase
 use Rattle.uv_ids.specs.declared.seen.Seen.TheVariants as seen
 use Rattle.uv_ids.specs.declared.seen.Site.TheVariants as site
 use Rattle.uv_ids.specs.declared.seen.Callback.TheVariants as callback
-use Rattle.uv_ids.specs.declared.fault.Why.TheVariants.{Blocked, NoWork, Range, IdleWorker}
+use Rattle.uv_ids.specs.declared.fault.Why.TheVariants.{NoWork, Range}
 use Rattle.uv_script.specs.declared.op.MainOp.TheVariants as main
-use Rattle.uv_script.specs.Program.{main_op}
 use Rattle.uv_records.specs.Handles as records
 use Rattle.uv_records.specs.declared.lists.WatcherKind.TheVariants as watcher
-use Rattle.uv_records.specs.Walks.{all_yet}
 use Rattle.uv_work.specs.Digests.{digest_of}
-use Rattle.uv_work.specs.Tasks.{text_of}
-use Rattle.uv_work.specs.Requests.{digest_in}
-use Rattle.uv_work.specs.declared.outcome.Outcome.TheVariants.{Finished}
 use Rattle.uv_model.specs.declared.place.TimersOf.TheVariants as timers_of
-use Rattle.uv_model.specs.Limits.{LATEST}
-use Rattle.uv_model.specs.Timeout.{is_alive, poll_timeout, deadline_of}
 use Rattle.uv_model.specs.Ops as ops
-use Rattle.uv_model.specs.Ops.{Coded}
 use Rattle.uv_model.specs.Next as steps
-use Rattle.uv_model.specs.Next.{Next, Refuses, first_due, collected, next}
+use Rattle.uv_model.specs.Next.{next}
 use Rattle.uv_alike.proofs.Cases.{if_shift}
-use Rattle.uv_alike.specs.Changed.{Change, changed, changed_handle, changed_request, changed_entry, changed_pair, changed_job, changed_line, changed_run, changed_place, changed_stage, changed_body, changed_walk, changed_callback, changed_main, changed_event, changed_answer, changed_program, Comes}
-use Rattle.uv_alike.specs.Hides.{Hides, IsWhole, SeesAlike}
-use Rattle.uv_alike.specs.Asks.{cancels_at, cancels_line, cancels_main, cancels_run, place_asks_done, run_asks_done, stage_asks_done, place_reads_clock, line_reads_clock, main_reads_clock, run_reads_clock, stage_reads_clock}
 use Rattle.uv_alike.proofs.Ops.{Cancels, Clocks, AreDone, Reads, by_test, found_changed, front_held, first_due_held, some_changed, found_handle, found_request, request_puts, put_changed, put_twice, stopped_changed, restarted_changed, collected_changed, request_changed, with_job, front_request_changed, front_changed, first_due_changed, alive, woken, poll_changed, deadline_changed, passed_changed, refreshed_changed, ended_changed, cancel_changed, send_changed, op_changed, whole_reads, whole_done}
 
 -- ---- the clock, where a run goes on

@@ -1,8 +1,6 @@
 -- What each change of any names and slots keeps, each step keeps: of a name it goes by its number alone.
-use Rattle.uv_alike.proofs.Names.{List, Some, slice_set, ℕ, ◌≡◌, Event, Id, next_free, Slots, freed, held, taken, Named, Program, arena_size, Content, State}
-use Rattle.uv_records.specs.declared.named.Calls.{Calls}
+use Rattle.uv_alike.proofs.Names.{List, Some, slice_set, ℕ, ◌≡◌, Event, Id, next_free, Slots, freed, held, taken, Named, Program, arena_size, Content, State, Calls, with_held}
 use Rattle.uv_records.specs.Names as names
-use Rattle.uv_records.specs.Slots.{with_held}
 use Rattle.uv_model.specs.Next.{next}
 use Rattle.uv_alike.proofs.Kept as of_state
 use Rattle.uv_alike.proofs.Kept.{Keeps, StaysKept}

@@ -1,35 +1,10 @@
 -- What a worker takes beside a tick, what another worker finishes, and a callback of I/O.
-use Rattle.std.proofs.Common.{◌≡◌, ℕ, ◌+◌, ◌==◌, List, ◌∷◌, length, drop, Bool, true, false, Option, Some, None, Result, Ok, Err, refl, ap, sym, subst, ◌∙◌, arith, nat_le, nat_lt, slice_get, slice_set, if◌then◌else◌}
-use Rattle.std.proofs.lemmas.Bool.{eq-eqb, eqb-true}
-use Rattle.std.proofs.lemmas.Grind.{elements}
-use Rattle.std.proofs.lemmas.List.{set_comm}
-use Rattle.uv_ids.specs.declared.id.Id.{Id}
-use Rattle.uv_ids.specs.declared.id.Var.{Var}
-use Rattle.uv_ids.specs.declared.event.Event.{Event}
-use Rattle.uv_ids.specs.declared.event.Event.TheVariants.{Take, Finish, Send, Io, Tick}
-use Rattle.uv_ids.specs.declared.code.Code.{Code}
+use Rattle.uv_apart.proofs.Names.{◌≡◌, ℕ, ◌+◌, ◌==◌, List, ◌∷◌, length, drop, Bool, true, false, Option, Some, None, Result, Ok, Err, refl, ap, sym, subst, ◌∙◌, arith, nat_le, nat_lt, slice_get, slice_set, if◌then◌else◌, eq-eqb, eqb-true, elements, set_comm, Id, Var, Event, Take, Finish, Send, Io, Tick, Code, Range, Seen, Program, HandleRecord, Slot, send_refusal, held, Content, Request, Run, handle_in, request_in, found_or, state_of, LATEST, Coded, ended, send, State, front_request, live_handle, request, with_handle, with_id, Moves, Refuses, io_run, io_handle, call_io, Crosses}
 use Rattle.uv_ids.specs.declared.code.Code.TheVariants.{Ok as Success}
-use Rattle.uv_ids.specs.declared.fault.Why.TheVariants.{Range}
-use Rattle.uv_ids.specs.declared.seen.Seen.{Seen}
 use Rattle.uv_ids.specs.declared.seen.Seen.TheVariants as seen
-use Rattle.uv_script.specs.Program.{Program}
-use Rattle.uv_records.specs.declared.handle.HandleRecord.{HandleRecord}
-use Rattle.uv_records.specs.declared.slot.Slot.{Slot}
 use Rattle.uv_records.specs.Handles as records
-use Rattle.uv_records.specs.Refusals.{send_refusal}
-use Rattle.uv_records.specs.Slots.{held}
-use Rattle.uv_work.specs.declared.content.Content.{Content}
 use Rattle.uv_work.specs.declared.content.Content.TheVariants as content
-use Rattle.uv_work.specs.declared.request.Request.{Request}
-use Rattle.uv_model.specs.declared.place.Run.{Run}
-use Rattle.uv_model.specs.Content.{handle_in, request_in}
-use Rattle.uv_model.specs.Found.{found_or}
-use Rattle.uv_model.specs.After.{state_of}
-use Rattle.uv_model.specs.Limits.{LATEST}
-use Rattle.uv_model.specs.Ops.{Coded, ended, send}
-use Rattle.uv_model.specs.State.{State, front_request, live_handle, request, with_handle, with_id}
-use Rattle.uv_model.specs.Next.{Moves, Refuses, next, io_run, io_handle, call_io}
-use Rattle.uv_apart.specs.Apart.{Crosses}
+use Rattle.uv_model.specs.Next.{next}
 use Rattle.uv_apart.proofs.Cases.{by_test}
 use Rattle.uv_apart.proofs.Changed.{Change, changed, live_held, send_changed}
 use Rattle.uv_apart.proofs.Walk.{changed_next}

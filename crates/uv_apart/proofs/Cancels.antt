@@ -1,18 +1,7 @@
 -- Where the loop's next step is apart, it is no cancel.
-use Rattle.std.proofs.Common.{◌≡◌, true, false, Option, Some, None, refl, slice_get}
-use Rattle.uv_script.specs.declared.op.Op.{Op}
+use Rattle.uv_apart.proofs.Names.{◌≡◌, true, false, Option, Some, None, refl, slice_get, Op, MainOp, CallbackLine, Program, lines_in, Body, Run, Place, Main, Running, State, cancels, cancels_at, cancels_line, cancels_main, cancels_op, cancels_run, is_apart, is_apart_at, is_apart_line, is_apart_main, is_apart_op, is_apart_run}
 use Rattle.uv_script.specs.declared.op.Op.TheVariants as op
-use Rattle.uv_script.specs.declared.op.MainOp.{MainOp}
 use Rattle.uv_script.specs.declared.op.MainOp.TheVariants as main
-use Rattle.uv_script.specs.declared.op.CallbackLine.{CallbackLine}
-use Rattle.uv_script.specs.Program.{Program, lines_in}
-use Rattle.uv_model.specs.declared.place.Body.{Body}
-use Rattle.uv_model.specs.declared.place.Run.{Run}
-use Rattle.uv_model.specs.declared.place.Place.{Place}
-use Rattle.uv_model.specs.declared.place.Place.TheVariants.{Main, Running}
-use Rattle.uv_model.specs.State.{State}
-use Rattle.uv_alike.specs.Asks.{cancels, cancels_at, cancels_line, cancels_main, cancels_op, cancels_run}
-use Rattle.uv_apart.specs.Apart.{is_apart, is_apart_at, is_apart_line, is_apart_main, is_apart_op, is_apart_run}
 
 op_cancels : (o : Op) → is_apart_op o ≡ true → cancels_op o ≡ false
 op_cancels (op.Cancel v) e = cc e

@@ -1,26 +1,11 @@
 -- A state in which what the loop's own steps don't look at is changed, and the ops in it.
-use Rattle.std.proofs.Common.{◌≡◌, ℕ, List, [], ◌∷◌, ◌++◌, length, Bool, true, Option, Some, None, Result, Ok, Err, refl, ap, sym, ◌∙◌, arith, slice_get, slice_set, option_map, subst}
-use Rattle.std.specs.List.{list_any}
-use Rattle.std.proofs.lemmas.Option.{same_Some}
-use Rattle.uv_ids.specs.declared.id.Id.{Id}
-use Rattle.uv_ids.specs.declared.id.Var.{Var}
-use Rattle.uv_ids.specs.declared.code.Code.{Code}
+use Rattle.uv_apart.proofs.Names.{◌≡◌, ℕ, List, [], ◌∷◌, ◌++◌, length, Bool, true, Option, Some, None, Result, Ok, Err, refl, ap, sym, ◌∙◌, arith, slice_get, slice_set, option_map, subst, list_any, same_Some, Id, Var, Code, HandleRecord, Slot, send_refusal, Slots, held, id_of, next_free, next_id, next_unused, taken_from, Content, Request, content_keeps, content_pends, is_used, handle_in, same_id, State, named, live, live_id, live_handle, live_request, as_handle, handle, with_handle, with_id, Coded, do_op}
 use Rattle.uv_ids.specs.declared.code.Code.TheVariants.{Ok as Success}
 use Rattle.uv_script.specs.declared.op.Op.TheVariants as op
-use Rattle.uv_records.specs.declared.handle.HandleRecord.{HandleRecord}
-use Rattle.uv_records.specs.declared.slot.Slot.{Slot}
 use Rattle.uv_records.specs.Handles as records
-use Rattle.uv_records.specs.Refusals.{send_refusal}
-use Rattle.uv_records.specs.Slots.{Slots, held, id_of, next_free, next_id, next_unused, taken_from}
 use Rattle.uv_work.specs.Content.{handle_of}
-use Rattle.uv_work.specs.declared.content.Content.{Content}
 use Rattle.uv_work.specs.declared.content.Content.TheVariants as content
-use Rattle.uv_work.specs.declared.request.Request.{Request}
-use Rattle.uv_model.specs.Content.{content_keeps, content_pends, is_used, handle_in}
-use Rattle.uv_model.specs.Ids.{same_id}
-use Rattle.uv_model.specs.State.{State, named, live, live_id, live_handle, live_request, as_handle, handle, with_handle, with_id}
 use Rattle.uv_model.specs.Ops as ops
-use Rattle.uv_model.specs.Ops.{Coded, do_op}
 use Rattle.uv_apart.proofs.Cases.{by_found, by_test}
 
 -- what is changed: the clock, who waits, who runs, who is done, and what the slots hold

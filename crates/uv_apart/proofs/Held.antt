@@ -1,27 +1,7 @@
 -- A slot that holds an open request: no step of the loop tells it, nor changes it.
-use Rattle.std.proofs.Common.{◌≡◌, ℕ, zero, suc, ◌==◌, List, [], ◌∷◌, ◌++◌, length, Bool, true, false, Option, Some, None, refl, ap, sym, subst, ◌∙◌, arith, not, ◌||◌, slice_get, slice_set, if◌then◌else◌}
-use Rattle.std.specs.List.{list_any}
-use Rattle.std.proofs.lemmas.Bool.{eq-eqb, eqb-true}
-use Rattle.std.proofs.lemmas.Grind.{elements}
-use Rattle.std.proofs.lemmas.List.{set_comm}
-use Rattle.std.proofs.lemmas.Option.{same_Some}
-use Rattle.uv_ids.specs.declared.id.Id.{Id}
-use Rattle.uv_ids.specs.declared.event.Event.{Event}
-use Rattle.uv_script.specs.Program.{Program}
-use Rattle.uv_records.specs.declared.handle.HandleRecord.{HandleRecord}
-use Rattle.uv_records.specs.declared.slot.Slot.{Slot}
-use Rattle.uv_records.specs.Slots.{held, held_in}
-use Rattle.uv_work.specs.Requests.{is_open}
-use Rattle.uv_work.specs.declared.content.Content.{Content}
+use Rattle.uv_apart.proofs.Names.{◌≡◌, ℕ, zero, suc, ◌==◌, List, [], ◌∷◌, ◌++◌, length, Bool, true, false, Option, Some, None, refl, ap, sym, subst, ◌∙◌, arith, not, ◌||◌, slice_get, slice_set, if◌then◌else◌, list_any, eq-eqb, eqb-true, elements, set_comm, same_Some, Id, Event, Program, HandleRecord, Slot, held, held_in, Content, Request, content_keeps, content_pends, handle_in, is_used, request_in, after, State, handle, request, has_id, IsOpened, has_new_middle, reached, is_open}
 use Rattle.uv_work.specs.declared.content.Content.TheVariants as content
-use Rattle.uv_work.specs.declared.request.Request.{Request}
-use Rattle.uv_model.specs.Content.{content_keeps, content_pends, handle_in, is_used, request_in}
-use Rattle.uv_model.specs.After.{after}
-use Rattle.uv_model.specs.State.{State, handle, request}
-use Rattle.uv_order.specs.Active.{has_id, IsOpened}
 use Rattle.uv_order.proofs.Documents.{holds_after}
-use Rattle.uv_order.proofs.IdLists.{has_new_middle}
-use Rattle.uv_order.proofs.Reaching.{reached}
 use Rattle.uv_apart.proofs.Changed.{Change, Leaves, Hides, seen_in}
 
 -- the slot of an id, with this request

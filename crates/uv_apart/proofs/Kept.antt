@@ -1,18 +1,7 @@
 -- What each step of the loop keeps; and ticks, which may come before or behind one.
-use Rattle.std.proofs.Common.{if◌then◌else◌, ◌≡◌, ℕ, ◌+◌, List, [], ◌∷◌, ◌++◌, Bool, true, false, Option, Some, refl, ap, sym, ◌∙◌, nat_le}
-use Rattle.uv_ids.specs.declared.id.Id.{Id}
-use Rattle.uv_ids.specs.declared.seen.Seen.{Seen}
+use Rattle.uv_apart.proofs.Names.{if◌then◌else◌, ◌≡◌, ℕ, ◌+◌, List, [], ◌∷◌, ◌++◌, Bool, true, false, Option, Some, refl, ap, sym, ◌∙◌, nat_le, Id, Seen, Event, Loop, Tick, Range, Program, seen_of, state_of, LATEST, State, Next, Moves, Refuses, tick, reads_clock, Meets}
 use Rattle.uv_ids.specs.declared.seen.Seen.TheVariants as seen
-use Rattle.uv_ids.specs.declared.event.Event.{Event}
-use Rattle.uv_ids.specs.declared.event.Event.TheVariants.{Loop, Tick}
-use Rattle.uv_ids.specs.declared.fault.Why.TheVariants.{Range}
-use Rattle.uv_script.specs.Program.{Program}
-use Rattle.uv_model.specs.After.{seen_of, state_of}
-use Rattle.uv_model.specs.Limits.{LATEST}
-use Rattle.uv_model.specs.State.{State}
-use Rattle.uv_model.specs.Next.{Next, Moves, Refuses, next, tick}
-use Rattle.uv_alike.specs.Asks.{reads_clock}
-use Rattle.uv_apart.specs.Apart.{Meets}
+use Rattle.uv_model.specs.Next.{next}
 use Rattle.uv_apart.proofs.Changed.{Change, changed, Leaves, Hides, SameWork}
 use Rattle.uv_apart.proofs.Walk.{changed_next, next_changed}
 

@@ -1,3 +1,4 @@
+mod Names
 pub mod Cases
 pub mod Changed
 pub mod Walk

@@ -1,36 +1,10 @@
 -- What a worker takes and finishes, before or behind a step of the loop.
-use Rattle.std.proofs.Common.{◌≡◌, ℕ, suc, List, [], ◌∷◌, ◌++◌, drop, Bool, true, false, Option, Some, None, Ok, Err, refl, ap, sym, subst, ◌∙◌, ◌||◌, slice_get, slice_set}
-use Rattle.std.proofs.lemmas.Bool.{or_right}
-use Rattle.std.proofs.lemmas.Option.{same_Some}
-use Rattle.uv_ids.specs.declared.id.Id.{Id}
-use Rattle.uv_ids.specs.declared.event.Event.{Event}
-use Rattle.uv_ids.specs.declared.event.Event.TheVariants.{Loop, Take, Finish}
-use Rattle.uv_ids.specs.declared.fault.Why.{Why}
-use Rattle.uv_ids.specs.declared.fault.Why.TheVariants.{IdleWorker, NoWork}
-use Rattle.uv_ids.specs.declared.seen.Seen.{Seen}
+use Rattle.uv_apart.proofs.Names.{◌≡◌, ℕ, suc, List, [], ◌∷◌, ◌++◌, drop, Bool, true, false, Option, Some, None, Ok, Err, refl, ap, sym, subst, ◌∙◌, ◌||◌, slice_get, slice_set, or_right, same_Some, Id, Event, Loop, Take, Finish, IdleWorker, NoWork, Seen, Program, Slot, Content, Request, after, seen_of, state_of, found_or, same_id, State, front_request, request, with_id, ended, Moves, Refuses, next_work, take, work_of, finish, has_id, run_ids, has_both, itself, reached, cancels, is_apart, Meets, Why, digest_of, text_of, Finished, IsReached}
 use Rattle.uv_ids.specs.declared.seen.Seen.TheVariants as seen
-use Rattle.uv_script.specs.Program.{Program}
-use Rattle.uv_records.specs.declared.slot.Slot.{Slot}
-use Rattle.uv_work.specs.declared.content.Content.{Content}
 use Rattle.uv_work.specs.declared.content.Content.TheVariants as content
-use Rattle.uv_work.specs.Digests.{digest_of}
-use Rattle.uv_work.specs.Tasks.{text_of}
-use Rattle.uv_work.specs.declared.outcome.Outcome.TheVariants.{Finished}
-use Rattle.uv_work.specs.declared.request.Request.{Request}
-use Rattle.uv_model.specs.After.{after, seen_of, state_of}
-use Rattle.uv_model.specs.Found.{found_or}
-use Rattle.uv_model.specs.Ids.{same_id}
-use Rattle.uv_model.specs.State.{State, front_request, request, with_id}
 use Rattle.uv_model.specs.State.{request as held_request}
-use Rattle.uv_order.specs.Reached.{IsReached}
-use Rattle.uv_model.specs.Ops.{ended}
-use Rattle.uv_model.specs.Next.{Moves, Refuses, next, next_work, take, work_of, finish}
+use Rattle.uv_model.specs.Next.{next}
 use Rattle.uv_model.proofs.Runs.{after-moves}
-use Rattle.uv_order.specs.Active.{has_id, run_ids}
-use Rattle.uv_order.proofs.IdLists.{has_both, itself}
-use Rattle.uv_order.proofs.Reaching.{reached}
-use Rattle.uv_alike.specs.Asks.{cancels}
-use Rattle.uv_apart.specs.Apart.{is_apart, Meets}
 use Rattle.uv_apart.proofs.Cancels.{apart_cancels}
 use Rattle.uv_apart.proofs.Changed.{changed}
 use Rattle.uv_apart.proofs.Walk.{changed_next, next_changed}

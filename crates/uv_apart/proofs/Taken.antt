@@ -1,34 +1,9 @@
 -- Where the loop's step is apart it isn't refused; and what comes from outside leaves its place.
-use Rattle.std.proofs.Common.{◌≡◌, ℕ, true, false, Option, Some, None, ap, slice_get}
-use Rattle.std.proofs.lemmas.Bool.{cond_both}
-use Rattle.uv_ids.specs.declared.event.Event.TheVariants.{Loop, Take, Finish, Tick}
-use Rattle.uv_ids.specs.declared.order.Order.{Order}
-use Rattle.uv_ids.specs.declared.seen.Seen.{Seen}
-use Rattle.uv_script.specs.declared.op.MainOp.{MainOp}
+use Rattle.uv_apart.proofs.Names.{◌≡◌, ℕ, true, false, Option, Some, None, ap, slice_get, cond_both, Loop, Take, Finish, Tick, Seen, MainOp, CallbackLine, Program, order_of, from_heap, lines_in, Body, Run, Stage, Entry, Pending, Walking, Poll, Polled, Done, DoneUnwoken, Closing, Timers, Place, Main, Running, IsMove, State, front, front_request, Moves, place_reads_clock, is_apart, is_apart_at, is_apart_main, is_apart_run, is_apart_stage, LeavesPlace, Order, WatcherKind, TimersOf, Turn, AtEntry, Behind, BehindClosing, Way, ToTimers, ToPending, ToEnd, Timing, Collecting, Firing}
 use Rattle.uv_script.specs.declared.op.MainOp.TheVariants as main
-use Rattle.uv_script.specs.declared.op.CallbackLine.{CallbackLine}
-use Rattle.uv_script.specs.Program.{Program, order_of, from_heap, lines_in}
-use Rattle.uv_records.specs.declared.lists.WatcherKind.{WatcherKind}
 use Rattle.uv_records.specs.declared.lists.WatcherKind.TheVariants as watcher
-use Rattle.uv_model.specs.declared.place.Body.{Body}
-use Rattle.uv_model.specs.declared.place.Run.{Run}
-use Rattle.uv_model.specs.declared.place.Stage.{Stage}
-use Rattle.uv_model.specs.declared.place.Stage.TheVariants.{Entry, Pending, Walking, Poll, Polled, Done, DoneUnwoken, Closing, Timers}
-use Rattle.uv_model.specs.declared.place.TimersOf.{TimersOf}
-use Rattle.uv_model.specs.declared.place.Turn.{Turn}
-use Rattle.uv_model.specs.declared.place.Turn.TheVariants.{AtEntry, Behind, BehindClosing}
-use Rattle.uv_model.specs.declared.place.Way.{Way}
-use Rattle.uv_model.specs.declared.place.Way.TheVariants.{ToTimers, ToPending, ToEnd}
-use Rattle.uv_model.specs.declared.place.Timing.{Timing}
-use Rattle.uv_model.specs.declared.place.Timing.TheVariants.{Collecting, Firing}
-use Rattle.uv_model.specs.declared.place.Place.{Place}
-use Rattle.uv_model.specs.declared.place.Place.TheVariants.{Main, Running}
-use Rattle.uv_model.specs.After.{IsMove}
-use Rattle.uv_model.specs.State.{State, front, front_request}
 use Rattle.uv_model.specs.Next as steps
-use Rattle.uv_model.specs.Next.{Moves, next}
-use Rattle.uv_alike.specs.Asks.{place_reads_clock}
-use Rattle.uv_apart.specs.Apart.{is_apart, is_apart_at, is_apart_main, is_apart_run, is_apart_stage, LeavesPlace}
+use Rattle.uv_model.specs.Next.{next}
 use Rattle.uv_apart.proofs.Cases.{found_both}
 use Rattle.uv_apart.proofs.Kept.{next_ticks}
 use Rattle.uv_apart.proofs.Pool.{next_takes, next_finishes}

@@ -1,36 +1,12 @@
 -- A step of the loop from a state in which what it doesn't look at is changed: it is a change of the state.
-use Rattle.std.proofs.Common.{◌≡◌, ◌∙◌, ◌==◌, ◌+◌, List, [], ◌∷◌, true, false, Option, Some, None, Result, Ok, Err, refl, ap, ap₂, sym, subst, arith, nat_le}
-use Rattle.std.proofs.lemmas.List.{map-id}
-use Rattle.std.proofs.lemmas.Option.{same_Some}
-use Rattle.std.specs.Prelude.{is_some}
-use Rattle.uv_ids.specs.declared.code.Answer.{Answer}
-use Rattle.uv_ids.specs.declared.code.Code.{Code}
-use Rattle.uv_ids.specs.declared.event.Event.TheVariants.{Loop}
-use Rattle.uv_ids.specs.declared.id.Id.{Id}
-use Rattle.uv_ids.specs.declared.seen.Seen.{Seen}
-use Rattle.uv_script.specs.Program.{Program, arena_size}
-use Rattle.uv_script.specs.declared.op.Op.{Op}
-use Rattle.uv_records.specs.declared.handle.HandleRecord.{HandleRecord}
-use Rattle.uv_records.specs.Slots.{freed, held}
-use Rattle.uv_work.specs.declared.content.Content.{Content}
+use Rattle.uv_apart.proofs.Names.{◌≡◌, ◌∙◌, ◌==◌, ◌+◌, List, [], ◌∷◌, true, false, Option, Some, None, Result, Ok, Err, refl, ap, ap₂, sym, subst, arith, nat_le, map-id, same_Some, is_some, Code, Loop, Id, Seen, Program, arena_size, Op, HandleRecord, freed, held, Content, Request, Place, Main, Running, Stage, Poll, Polled, Body, State, front_request, live_id, live_request, named, request, with_id, cancel, Next, Moves, Refuses, cancels, place_asks_done, run_asks_done, reads_clock, is_apart, is_apart_at, is_apart_run, Answer, same, changed_answer, changed_content, changed_line, changed_place, IsExact}
 use Rattle.uv_work.specs.declared.content.Content.TheVariants as content
-use Rattle.uv_work.specs.declared.request.Request.{Request}
-use Rattle.uv_model.specs.declared.place.Place.{Place}
-use Rattle.uv_model.specs.declared.place.Place.TheVariants.{Main, Running}
-use Rattle.uv_model.specs.declared.place.Stage.{Stage}
-use Rattle.uv_model.specs.declared.place.Stage.TheVariants.{Poll, Polled}
-use Rattle.uv_model.specs.declared.place.Body.{Body}
-use Rattle.uv_model.specs.State.{State, front_request, live_id, live_request, named, request, with_id}
-use Rattle.uv_model.specs.Ops.{cancel}
-use Rattle.uv_model.specs.Next.{Next, Moves, Refuses, next}
-use Rattle.uv_alike.specs.Asks.{cancels, place_asks_done, run_asks_done, reads_clock}
+use Rattle.uv_model.specs.Next.{next}
 use Rattle.uv_alike.specs.Changed as whole
-use Rattle.uv_alike.specs.Changed.{same, changed_answer, changed_content, changed_line, changed_place}
-use Rattle.uv_alike.specs.Hides.{IsExact, Hides as HidesChange}
+use Rattle.uv_alike.specs.Hides.{Hides as HidesChange}
 use Rattle.uv_alike.proofs.Exact.{loop_exact}
 use Rattle.uv_alike.proofs.Ops.{Reads, Cancels, found_handle}
 use Rattle.uv_alike.proofs.Same.{work_same, option_same, lines_same, main_same, lists_same, stage_same}
-use Rattle.uv_apart.specs.Apart.{is_apart, is_apart_at, is_apart_run}
 use Rattle.uv_apart.proofs.Cases.{by_test}
 use Rattle.uv_apart.proofs.Changed.{Change, changed, changed_arena, Leaves, Hides, SameDone, SameWork, seen_in, handle_changed, live_handle_changed, next_free_changed, taken_changed, cancel_changed}
 

@@ -1,21 +1,7 @@
 -- A slot is taken, freed, or given other content.
-use Rattle.std.proofs.Common.{◌≡◌, ◌≢◌, ℕ, zero, suc, ◌-◌, ◌<◌, ◌≤◌, if◌then◌else◌, Bool, true, false, ◌&&◌, List, [], ◌∷◌, length, set, slice_get, Some, None, is_some, option_and_then, refl, sym, ap, ◌∙◌, subst, inl, inr, arith}
-use Rattle.std.proofs.lemmas.Bool.Decides.{eqb_tells}
-use Rattle.std.proofs.lemmas.List.{length-map}
-use Rattle.std.proofs.lemmas.Option.{slice_get_within, slice_get_past}
-use Rattle.uv_ids.specs.declared.id.Id.{Id}
-use Rattle.uv_records.specs.declared.slot.Slot.{Slot}
-use Rattle.uv_records.specs.declared.lists.ListName.{ListName}
-use Rattle.uv_records.specs.Lists.{number}
+use Rattle.uv_arena.proofs.ProofNames.{◌≡◌, ◌≢◌, ℕ, zero, suc, ◌-◌, ◌<◌, ◌≤◌, if◌then◌else◌, Bool, true, false, ◌&&◌, List, [], ◌∷◌, length, set, slice_get, Some, None, is_some, option_and_then, refl, sym, ap, ◌∙◌, subst, inl, inr, arith, eqb_tells, length-map, slice_get_within, slice_get_past, Id, Slot, ListName, number, Links, Cell, link, loose, first, IsIn, IsSegment, FREE, Image, Memory, IsWithin, list_or_first, name_at, chains, chain, links_in, links_at, slot_in, slot_at, place_at, put_in, taken_out, edited, grown, with_links, in_memory, front_place, head_at, held_slots, plain_slots, held, on_list, IsSound, IsLinked, AreFit, insert_undone, set_undone, IsInserted, IsSet}
 use Rattle.uv_records.specs.Slots as plain
-use Rattle.uv_arena.specs.declared.links.Links.{Links}
-use Rattle.uv_arena.specs.declared.links.Cell.{Cell}
 use Rattle.uv_arena.specs.declared.undo.InsertUndo.{InsertUndo}
-use Rattle.uv_arena.specs.Chains.{link, loose, first, IsIn, IsSegment}
-use Rattle.uv_arena.specs.declared.links.TheConstants.{FREE}
-use Rattle.uv_arena.specs.Image.{Image, Memory, IsWithin, list_or_first, name_at, chains, chain, links_in, links_at, slot_in, slot_at, place_at, put_in, taken_out, edited, grown, with_links, in_memory, front_place, head_at, held_slots, plain_slots, held, on_list, IsSound, IsLinked, AreFit}
-use Rattle.uv_arena.specs.Undo.{insert_undone, set_undone}
-use Rattle.uv_arena.specs.Calls.{IsInserted, IsSet}
 use Rattle.uv_arena.proofs.Memories.{place_of, get-links, get-slots, take_made, head_is, slots_relinked, length_relinked, own_relinked, list_relinked, chain_edited, length_edited, linked_edited, own_edited, list_edited, slots_edited, edited_back, others_fit, fit_relinked, fit_edited, all_fit, member_tells}
 use Rattle.uv_arena.proofs.Places.{between}
 use Rattle.uv_arena.proofs.Lookups.{held_by, held_now, held_tells, on_list_by, name_below}

@@ -1,13 +1,6 @@
 -- What a slot holds, and what its content is read as.
-use Rattle.std.proofs.Common.{◌≡◌, ℕ, zero, suc, ◌+◌, eq-eqb, List, [], ◌∷◌, length, set, slice_get, Option, Some, None, IfSome, IfNone, option_and_then, refl, sym, ap, ◌∙◌, subst, inl, inr, arith}
-use Rattle.std.proofs.lemmas.Bool.Decides.{eqb_tells}
-use Rattle.std.proofs.lemmas.Grind.{elements}
-use Rattle.std.proofs.lemmas.Option.{slice_get_past}
-use Rattle.uv_ids.specs.declared.id.Id.{Id}
-use Rattle.uv_records.specs.declared.slot.Slot.{Slot}
+use Rattle.uv_arena.proofs.ProofNames.{◌≡◌, ℕ, zero, suc, ◌+◌, eq-eqb, List, [], ◌∷◌, length, set, slice_get, Option, Some, None, IfSome, IfNone, option_and_then, refl, sym, ap, ◌∙◌, subst, inl, inr, arith, eqb_tells, elements, slice_get_past, Id, Slot, Image, held, IsSet}
 use Rattle.uv_records.specs.Slots as plain
-use Rattle.uv_arena.specs.Image.{Image, held}
-use Rattle.uv_arena.specs.Calls.{IsSet}
 use Rattle.uv_arena.proofs.Memories.{or_none}
 
 pub set_here : {A : Type 0} (xs : List A) (k : ℕ) (a b : A) → slice_get xs k ≡ Some a → slice_get (set xs k b) k ≡ Some b

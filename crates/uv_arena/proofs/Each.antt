@@ -1,6 +1,5 @@
 -- A function applied at each index.
-use Rattle.std.proofs.Common.{◌≡◌, ◌≢◌, ℕ, zero, suc, List, [], ◌∷◌, length, set, slice_get, Some, refl, sym, ap, ◌∙◌, arith}
-use Rattle.uv_arena.specs.Chains.{each}
+use Rattle.uv_arena.proofs.ProofNames.{◌≡◌, ◌≢◌, ℕ, zero, suc, List, [], ◌∷◌, length, set, slice_get, Some, refl, sym, ap, ◌∙◌, arith, each}
 
 module _ {X : Type 0} where
   pub get-each : (f : ℕ → X → X) (xs : List X) (j : ℕ) (x : X) → slice_get xs j ≡ Some x → slice_get (each f xs) j ≡ Some (f j x)

@@ -1,14 +1,6 @@
 -- Who is on the free list, by the links.
-use Rattle.std.proofs.Common.{◌≡◌, inl, inr, ℕ, ◌<◌, ◌≤◌, ◌==◌, ◌||◌, Bool, true, false, List, [], ◌∷◌, length, slice_get, Option, Some, None, refl, sym, ap, ◌∙◌, arith}
-use Rattle.std.specs.List.{list_any}
-use Rattle.std.proofs.lemmas.Bool.{eq-eqb, false_from_ne_true}
-use Rattle.std.proofs.lemmas.Bool.Decides.{eqb_tells}
-use Rattle.std.proofs.lemmas.Option.{slice_get_within}
-use Rattle.uv_arena.specs.declared.links.Cell.{Cell}
-use Rattle.uv_arena.specs.declared.links.Links.{Links}
-use Rattle.uv_arena.specs.Chains.{IsIn}
-use Rattle.uv_arena.specs.declared.links.TheConstants.{FREE}
-use Rattle.uv_arena.specs.Image.{Memory, chain, links_at, links_in, IsLinked}
+use Rattle.uv_arena.proofs.ProofNames.{◌≡◌, inl, inr, ℕ, ◌<◌, ◌≤◌, ◌==◌, ◌||◌, Bool, true, false, List, [], ◌∷◌, length, slice_get, Option, Some, None, refl, sym, ap, ◌∙◌, arith, list_any, false_from_ne_true, eqb_tells, slice_get_within, Cell, Links, IsIn, FREE, Memory, chain, links_at, links_in, IsLinked}
+use Rattle.std.proofs.lemmas.Bool.{eq-eqb}
 use Rattle.uv_arena.proofs.Memories.{member_tells, get-links}
 
 any_in : (xs : List ℕ) (x : ℕ) → IsIn x xs → list_any (λ n. n == x) xs ≡ true

@@ -1,16 +1,6 @@
 -- An arena without slots, one slot more, and one less.
-use Rattle.std.proofs.Common.{◌≡◌, ℕ, zero, suc, ◌+◌, ◌-◌, ◌<◌, ◌^◌, ◌⊎◌, List, [], ◌∷◌, ◌++◌, length, take, replicate, slice_get, Option, Some, None, refl, sym, ap, ◌∙◌, subst, inl, inr, arith, length-append}
-use Rattle.std.proofs.lemmas.Grind.{elements}
-use Rattle.std.proofs.lemmas.List.{map-append}
+use Rattle.uv_arena.proofs.ProofNames.{◌≡◌, ℕ, zero, suc, ◌+◌, ◌-◌, ◌<◌, ◌^◌, ◌⊎◌, List, [], ◌∷◌, ◌++◌, length, take, replicate, slice_get, Option, Some, None, refl, sym, ap, ◌∙◌, subst, inl, inr, arith, length-append, elements, map-append, row, LIST_COUNT, CHAIN_COUNT, Links, Ends, Cell, Chains, link, loose, first, IsSegment, Stands, Memory, no_ends, chains, chain, grown, shrunk, Fits, AreFit, IsLinked, IsSound, name_at, fresh_image, held_slots}
 use Rattle.std.proofs.Math.Seq.{take-append_seam}
-use Rattle.uv_raw.specs.Row.{row}
-use Rattle.uv_records.specs.declared.lists.TheConstants.{LIST_COUNT}
-use Rattle.uv_arena.specs.declared.links.TheConstants.{CHAIN_COUNT}
-use Rattle.uv_arena.specs.declared.links.Links.{Links}
-use Rattle.uv_records.specs.declared.lists.Ends.{Ends}
-use Rattle.uv_arena.specs.declared.links.Cell.{Cell}
-use Rattle.uv_arena.specs.Chains.{Chains, link, loose, first, IsSegment, Stands}
-use Rattle.uv_arena.specs.Image.{Memory, no_ends, chains, chain, grown, shrunk, Fits, AreFit, IsLinked, IsSound, name_at, fresh_image, held_slots}
 use Rattle.uv_arena.proofs.Walk.{walked, stands_walked}
 
 pub get_more : {A : Type 0} (xs : List A) (z : A) (j : ℕ) (x : A) → slice_get xs j ≡ Some x → slice_get (xs ++ z ∷ []) j ≡ Some x

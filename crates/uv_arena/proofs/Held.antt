@@ -1,10 +1,5 @@
 -- How many slots hold something of a kind.
-use Rattle.std.proofs.Common.{arith, ◌≡◌, ℕ, ◌+◌, ◌≤◌, zero, suc, Bool, true, false, List, [], ◌∷◌, ◌++◌, Option, Some, IfSome, map, length, refl, sym, ap, slice_get, slice_set, nat_lt, ◌<◌, ◌^◌, length-append}
-use Rattle.std.specs.List.{list_any}
-use Rattle.uv_records.specs.declared.slot.Slot.{Slot}
-use Rattle.uv_records.specs.Count.{one_if, Fits32}
-use Rattle.uv_arena.specs.declared.links.Cell.{Cell}
-use Rattle.uv_arena.specs.Holding.{one_of, count_of}
+use Rattle.uv_arena.proofs.ProofNames.{arith, ◌≡◌, ℕ, ◌+◌, ◌≤◌, zero, suc, Bool, true, false, List, [], ◌∷◌, ◌++◌, Option, Some, IfSome, map, length, refl, sym, ap, slice_get, slice_set, nat_lt, ◌<◌, ◌^◌, length-append, list_any, Slot, one_if, Fits32, Cell, one_of, count_of}
 
 module _ {X : Type 0} (such : Option X → Bool) where
   -- one cell is another now

@@ -1,3 +1,4 @@
+pub mod ProofNames
 pub mod Changes
 pub mod Contents
 pub mod Each

@@ -1,7 +1,5 @@
 -- Lists of slots: what is in them, what is apart, and segments.
-use Rattle.std.proofs.Common.{◌≡◌, ℕ, ◌⊎◌, List, [], ◌∷◌, ◌++◌, slice_get, Option, Some, None, refl, sym, ap, ◌∙◌, subst, inl, inr}
-use Rattle.uv_arena.specs.declared.links.Links.{Links}
-use Rattle.uv_arena.specs.Chains.{link, first, last, IsIn, IsApart, IsSegment}
+use Rattle.uv_arena.proofs.ProofNames.{◌≡◌, ℕ, ◌⊎◌, List, [], ◌∷◌, ◌++◌, slice_get, Option, Some, None, refl, sym, ap, ◌∙◌, subst, inl, inr, Links, link, first, last, IsIn, IsApart, IsSegment}
 
 pub in_left : (y : ℕ) (xs ys : List ℕ) → IsIn y xs → IsIn y (xs ++ ys)
 in_left y [] ys h = absurd h

@@ -1,18 +1,6 @@
 -- What is held under an id, and whether it is on a list.
-use Rattle.std.proofs.Common.{◌≡◌, ◌≢◌, ℕ, ◌<◌, Bool, true, false, ◌&&◌, eqb, eq-eqb, List, [], ◌∷◌, ◌++◌, slice_get, Option, Some, None, is_some, option_map, option_and_then, refl, sym, ap, ◌∙◌, inl, inr, arith, if◌then◌else◌, not}
-use Rattle.std.proofs.lemmas.Bool.{and_parts}
-use Rattle.std.proofs.lemmas.Bool.Decides.{eqb_tells}
-use Rattle.std.proofs.lemmas.Option.{slice_get-map}
-use Rattle.uv_ids.specs.declared.id.Id.{Id}
-use Rattle.uv_records.specs.declared.lists.TheConstants.{LIST_COUNT}
-use Rattle.uv_records.specs.declared.lists.ListName.{ListName}
-use Rattle.uv_records.specs.Lists.{number}
+use Rattle.uv_arena.proofs.ProofNames.{◌≡◌, ◌≢◌, ℕ, ◌<◌, Bool, true, false, ◌&&◌, eqb, eq-eqb, List, [], ◌∷◌, ◌++◌, slice_get, Option, Some, None, is_some, option_map, option_and_then, refl, sym, ap, ◌∙◌, inl, inr, arith, if◌then◌else◌, not, and_parts, eqb_tells, slice_get-map, Id, LIST_COUNT, ListName, number, without, Cell, IsIn, IsApart, FREE, Image, Memory, name_at, chain, links_in, links_at, held_slots, members, held, on_list, IsSound}
 use Rattle.uv_records.specs.Slots as plain
-use Rattle.uv_records.specs.Walks.{without}
-use Rattle.uv_arena.specs.declared.links.Cell.{Cell}
-use Rattle.uv_arena.specs.Chains.{IsIn, IsApart}
-use Rattle.uv_arena.specs.declared.links.TheConstants.{FREE}
-use Rattle.uv_arena.specs.Image.{Image, Memory, name_at, chain, links_in, links_at, held_slots, members, held, on_list, IsSound}
 use Rattle.uv_arena.proofs.Lists.{in_right}
 use Rattle.uv_arena.proofs.Memories.{or_none, placed, member_tells}
 use Rattle.uv_arena.proofs.Names.{number_apart, number_below}

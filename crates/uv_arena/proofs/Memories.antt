@@ -1,16 +1,6 @@
 -- The memory before and after a slot is put in a place, taken out of it, or written.
-use Rattle.std.proofs.Common.{◌≡◌, ◌≢◌, ℕ, zero, suc, ◌<◌, ◌≤◌, ◌⊎◌, Bool, true, false, cond, eqb, eq-eqb, List, [], ◌∷◌, ◌++◌, length, map, set, slice_get, Option, Some, None, refl, sym, ap, ◌∙◌, subst, inl, inr, append_assoc}
-use Rattle.std.proofs.lemmas.Bool.Decides.{eqb_tells}
-use Rattle.std.proofs.lemmas.List.{length-map, map-set}
-use Rattle.std.proofs.lemmas.Option.{slice_get_within}
-use Rattle.uv_raw.specs.Row.{row}
-use Rattle.uv_records.specs.declared.slot.Slot.{Slot}
-use Rattle.uv_arena.specs.declared.links.TheConstants.{CHAIN_COUNT}
-use Rattle.uv_arena.specs.declared.links.Links.{Links}
-use Rattle.uv_arena.specs.declared.links.ChainPlace.{ChainPlace}
-use Rattle.uv_arena.specs.declared.links.Cell.{Cell}
-use Rattle.uv_arena.specs.Chains.{Chains, link, loose, each, first, last, IsIn, IsSegment, Stands, list_of, head_of, tail_of, new_links, new_ends, relinked}
-use Rattle.uv_arena.specs.Image.{Memory, IsBelow, IsWithin, with_links, with_cells, chains, chain, relinked_memory, put_in, taken_out, edit_at, edited, links_in, links_at, head_at, tail_at, Fits, AreFit, IsLinked, held_slots}
+use Rattle.uv_arena.proofs.ProofNames.{◌≡◌, ◌≢◌, ℕ, zero, suc, ◌<◌, ◌≤◌, ◌⊎◌, Bool, true, false, cond, eqb, eq-eqb, List, [], ◌∷◌, ◌++◌, length, map, set, slice_get, Option, Some, None, refl, sym, ap, ◌∙◌, subst, inl, inr, append_assoc, eqb_tells, length-map, map-set, slice_get_within, row, Slot, CHAIN_COUNT, Links, ChainPlace, Cell, Chains, link, loose, each, first, last, IsIn, IsSegment, Stands, head_of, tail_of, new_links, new_ends, relinked, Memory, IsBelow, IsWithin, with_links, with_cells, chains, chain, relinked_memory, put_in, taken_out, edit_at, edited, links_in, links_at, head_at, tail_at, Fits, AreFit, IsLinked, held_slots}
+use Rattle.uv_arena.specs.Chains.{list_of}
 use Rattle.uv_arena.proofs.Each.{get-each, length-each, get-each_back, each-each, each-agree, each-same, set-as}
 use Rattle.uv_arena.proofs.Lists.{last_is_in, first_is_in, in_left, in_right, segment_tells, segment_right, split_at}
 use Rattle.uv_arena.proofs.Relinking.{eqb_no, own_links, same_list}

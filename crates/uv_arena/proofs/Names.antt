@@ -1,13 +1,7 @@
 -- The names of the lists: each list has a number of its own, and is a chain of its own.
-use Rattle.std.proofs.Common.{◌≡◌, ◌≢◌, ℕ, ◌<◌, ◌==◌, ◌⊎◌, if◌then◌else◌, List, length, refl, sym, ap, ◌∙◌, subst, inl, inr, arith, ext_get_or}
-use Rattle.std.specs.List.{swap}
-use Rattle.std.proofs.lemmas.Bool.Decides.{eqb_tells}
+use Rattle.uv_arena.proofs.ProofNames.{◌≡◌, ◌≢◌, ℕ, ◌<◌, ◌==◌, ◌⊎◌, if◌then◌else◌, List, length, refl, sym, ap, ◌∙◌, subst, inl, inr, arith, ext_get_or, swap, eqb_tells, LIST_COUNT, ListName, number, name_at, AreNames}
 use Rattle.std.proofs.lemmas.List.Edits.{length-swap, swapped_from_swap}
-use Rattle.uv_records.specs.declared.lists.TheConstants.{LIST_COUNT}
-use Rattle.uv_records.specs.declared.lists.ListName.{ListName}
 use Rattle.uv_records.specs.declared.lists.ListName.TheVariants.{Ready, Idle, IdleYet, Prepare, PrepareYet, Check, CheckYet, Async, AsyncYet, Closing, ClosingYet, Waiting, Done, DoneYet}
-use Rattle.uv_records.specs.Lists.{number}
-use Rattle.uv_arena.specs.Image.{name_at, AreNames}
 
 name_of : ℕ → ListName
 name_of n =

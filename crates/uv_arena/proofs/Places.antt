@@ -1,10 +1,5 @@
 -- A slot is put in a place of a list, or taken out of it; and each undoes the other.
-use Rattle.std.proofs.Common.{◌≡◌, ℕ, ◌<◌, List, [], ◌∷◌, ◌++◌, slice_get, Option, Some, None, refl, sym, ap, ◌∙◌, subst, inl, inr}
-use Rattle.uv_arena.specs.declared.links.TheConstants.{CHAIN_COUNT}
-use Rattle.uv_arena.specs.declared.links.Links.{Links}
-use Rattle.uv_records.specs.declared.lists.Ends.{Ends}
-use Rattle.uv_arena.specs.declared.links.ChainPlace.{ChainPlace}
-use Rattle.uv_arena.specs.Chains.{Chains, link, loose, first, last, IsIn, IsSegment, IsList, Stands, ends_of, none_or, linked, unlinked, new_links}
+use Rattle.uv_arena.proofs.ProofNames.{◌≡◌, ℕ, ◌<◌, List, [], ◌∷◌, ◌++◌, slice_get, Option, Some, None, refl, sym, ap, ◌∙◌, subst, inl, inr, CHAIN_COUNT, Links, Ends, ChainPlace, Chains, link, loose, first, last, IsIn, IsSegment, IsList, Stands, ends_of, none_or, linked, unlinked, new_links}
 use Rattle.uv_arena.proofs.Each.{get-each}
 use Rattle.uv_arena.proofs.Lists.{in_left, in_right, in_either, last_in, last_is_in, first_is_in, apart_left, apart_right, apart_across, apart_join, last_append, segment_left, segment_right, segment_join, segment_tells}
 use Rattle.uv_arena.proofs.Relinking.{own_links, before_kept, after_kept, IsThere, undone}

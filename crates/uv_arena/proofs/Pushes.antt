@@ -1,21 +1,6 @@
 -- A slot is put on a list, or taken off it.
-use Rattle.std.proofs.Common.{◌≡◌, ◌≢◌, ℕ, ◌-◌, ◌<◌, Bool, true, false, ◌&&◌, eqb, List, [], ◌∷◌, ◌++◌, length, Some, None, is_some, refl, sym, ap, ◌∙◌, subst, inl, inr, arith, append-nil}
-use Rattle.std.proofs.lemmas.Bool.Decides.{eqb_tells}
-use Rattle.std.proofs.lemmas.Option.{slice_get_within}
-use Rattle.uv_ids.specs.declared.id.Id.{Id}
-use Rattle.uv_records.specs.declared.lists.TheConstants.{LIST_COUNT}
-use Rattle.uv_records.specs.declared.lists.ListName.{ListName}
-use Rattle.uv_records.specs.Lists.{number}
+use Rattle.uv_arena.proofs.ProofNames.{◌≡◌, ◌≢◌, ℕ, ◌-◌, ◌<◌, Bool, true, false, ◌&&◌, eqb, List, [], ◌∷◌, ◌++◌, length, Some, None, is_some, refl, sym, ap, ◌∙◌, subst, inl, inr, arith, append-nil, eqb_tells, slice_get_within, Id, LIST_COUNT, ListName, number, without, Links, ChainPlace, Cell, link, loose, first, last, IsApart, IsSegment, FREE, Image, Memory, IsWithin, list_or_first, name_at, chain, links_in, links_at, place_at, put_in, taken_out, with_links, in_memory, front_place, back_place, members, held_slots, plain_slots, held, on_list, IsSound, AreFit, chains, head_at, tail_at, push_undone, unlink_undone, rotate_undone, CanUndoUnlink, slot_or_first, front_again, IsPushed, IsUnlinked, IsFirst, IsRotated}
 use Rattle.uv_records.specs.Slots as plain
-use Rattle.uv_records.specs.Walks.{without}
-use Rattle.uv_arena.specs.declared.links.Links.{Links}
-use Rattle.uv_arena.specs.declared.links.ChainPlace.{ChainPlace}
-use Rattle.uv_arena.specs.declared.links.Cell.{Cell}
-use Rattle.uv_arena.specs.Chains.{link, loose, first, last, IsApart, IsSegment}
-use Rattle.uv_arena.specs.declared.links.TheConstants.{FREE}
-use Rattle.uv_arena.specs.Image.{Image, Memory, IsWithin, list_or_first, name_at, chain, links_in, links_at, place_at, put_in, taken_out, with_links, in_memory, front_place, back_place, members, held_slots, plain_slots, held, on_list, IsSound, AreFit, chains, head_at, tail_at}
-use Rattle.uv_arena.specs.Undo.{push_undone, unlink_undone, rotate_undone, CanUndoUnlink, slot_or_first, front_again}
-use Rattle.uv_arena.specs.Calls.{IsPushed, IsUnlinked, IsFirst, IsRotated}
 use Rattle.uv_arena.proofs.Memories.{place_of, get-links, put_made, take_made, placed, head_is, tail_is, slots_relinked, length_relinked, own_relinked, list_relinked, others_fit, fit_relinked, all_fit, member_tells}
 use Rattle.uv_arena.proofs.Lists.{last_append}
 use Rattle.uv_arena.proofs.Places.{between}

@@ -1,13 +1,5 @@
 -- What one write does, index by index.
-use Rattle.std.proofs.Common.{◌≡◌, ℕ, ◌<◌, Bool, true, false, cond, eqb, eq-eqb, List, length, set, slice_get, slice_index_or, Option, Some, None, refl, sym, ap, ◌∙◌}
-use Rattle.std.proofs.lemmas.Option.{slice_get-get_or}
-use Rattle.uv_arena.specs.declared.links.Links.{Links}
-use Rattle.uv_records.specs.declared.lists.Ends.{Ends}
-use Rattle.uv_arena.specs.declared.links.ChainPlace.{ChainPlace}
-use Rattle.uv_arena.specs.declared.links.Cell.{Cell}
-use Rattle.uv_arena.specs.Chains.{each, is_at, none_or, new_ends}
-use Rattle.uv_raw.specs.Row.{row}
-use Rattle.uv_arena.specs.Image.{Memory, no_ends, with_links, with_cells, with_ends, relinked_cells}
+use Rattle.uv_arena.proofs.ProofNames.{◌≡◌, ℕ, ◌<◌, Bool, true, false, cond, eqb, eq-eqb, List, length, set, slice_get, slice_index_or, Option, Some, None, refl, sym, ap, ◌∙◌, slice_get-get_or, Links, Ends, ChainPlace, Cell, each, is_at, none_or, new_ends, row, Memory, no_ends, with_links, with_cells, with_ends, relinked_cells}
 use Rattle.uv_arena.proofs.Each.{set-as, each-each, each-same, each-agree}
 use Rattle.uv_arena.proofs.Relinking.{eqb_no}
 

@@ -1,15 +1,5 @@
 -- What stands first, last, next and before on a list, and what the next taking gives.
-use Rattle.std.proofs.Common.{◌≡◌, ℕ, eqb, ◌<◌, true, false, ◌&&◌, List, [], ◌∷◌, ◌++◌, length, Option, Some, None, is_some, refl, sym, ap, ◌∙◌, subst, inr, arith}
-use Rattle.std.proofs.lemmas.Option.{slice_get_within}
-use Rattle.uv_ids.specs.declared.id.Id.{Id}
-use Rattle.uv_records.specs.declared.lists.TheConstants.{LIST_COUNT}
-use Rattle.uv_records.specs.declared.lists.ListName.{ListName}
-use Rattle.uv_records.specs.Lists.{number}
-use Rattle.uv_records.specs.Walks.{without}
-use Rattle.uv_arena.specs.declared.links.Links.{Links}
-use Rattle.uv_arena.specs.Chains.{link, first, last, IsIn, IsApart, IsSegment}
-use Rattle.uv_arena.specs.Image.{Image, name_at, chains, chain, links_in, links_at, slot_in, slot_at, head_at, tail_at, members, held, on_list, IsSound}
-use Rattle.uv_arena.specs.Calls.{IsListed, IsFirst, IsLast}
+use Rattle.uv_arena.proofs.ProofNames.{◌≡◌, ℕ, eqb, ◌<◌, true, false, ◌&&◌, List, [], ◌∷◌, ◌++◌, length, Option, Some, None, is_some, refl, sym, ap, ◌∙◌, subst, inr, arith, slice_get_within, Id, LIST_COUNT, ListName, number, without, Links, link, first, last, IsIn, IsApart, IsSegment, Image, name_at, chains, chain, links_in, links_at, slot_in, slot_at, head_at, tail_at, members, held, on_list, IsSound, IsListed, IsFirst, IsLast}
 use Rattle.uv_arena.proofs.Lists.{in_left, in_right, first_is_in, last_is_in, segment_right}
 use Rattle.uv_arena.proofs.Memories.{get-links, head_is, tail_is, placed, member_tells}
 use Rattle.uv_arena.proofs.Lookups.{held_now, is_loose, is_on, member_held, name_below, one_list, without_none, without_one}

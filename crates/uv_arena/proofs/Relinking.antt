@@ -1,10 +1,5 @@
 -- Relinking one place: what it does to segments, and that it can be undone.
-use Rattle.std.proofs.Common.{◌≡◌, ◌≢◌, ℕ, ◌⊎◌, Bool, true, false, cond, eqb, eq-eqb, List, [], ◌∷◌, slice_get, Option, Some, None, refl, sym, ap, ◌∙◌, subst, inl, inr}
-use Rattle.std.proofs.lemmas.Bool.Decides.{eqb_tells}
-use Rattle.uv_arena.specs.declared.links.Links.{Links}
-use Rattle.uv_records.specs.declared.lists.Ends.{Ends}
-use Rattle.uv_arena.specs.declared.links.ChainPlace.{ChainPlace}
-use Rattle.uv_arena.specs.Chains.{Chains, link, each, is_at, first, last, IsIn, IsApart, IsSegment, new_links, none_or, new_ends, relinked}
+use Rattle.uv_arena.proofs.ProofNames.{◌≡◌, ◌≢◌, ℕ, ◌⊎◌, Bool, true, false, cond, eqb, eq-eqb, List, [], ◌∷◌, slice_get, Option, Some, None, refl, sym, ap, ◌∙◌, subst, inl, inr, eqb_tells, Links, Ends, ChainPlace, Chains, link, each, is_at, first, last, IsIn, IsApart, IsSegment, new_links, none_or, new_ends, relinked}
 use Rattle.uv_arena.proofs.Each.{get-each, each-each, each-agree, each-same}
 use Rattle.uv_arena.proofs.Lists.{last_in}
 

@@ -1,18 +1,7 @@
 -- A slot is freed, or retired.
-use Rattle.std.proofs.Common.{◌≡◌, ◌≢◌, ◌+◌, ◌-◌, ◌<◌, ◌==◌, if◌then◌else◌, Bool, true, false, eq-eqb, [], ◌∷◌, length, set, Some, None, is_some, refl, sym, ap, ◌∙◌, subst, inl, inr, arith}
-use Rattle.std.proofs.lemmas.Bool.Decides.{eqb_tells}
-use Rattle.std.proofs.lemmas.Option.{slice_get_within}
-use Rattle.uv_ids.specs.declared.id.Id.{Id}
-use Rattle.uv_records.specs.declared.slot.Slot.{Slot}
-use Rattle.uv_records.specs.Lists.{number}
+use Rattle.uv_arena.proofs.ProofNames.{◌≡◌, ◌≢◌, ◌+◌, ◌-◌, ◌<◌, ◌==◌, if◌then◌else◌, Bool, true, false, eq-eqb, [], ◌∷◌, length, set, Some, None, is_some, refl, sym, ap, ◌∙◌, subst, inl, inr, arith, eqb_tells, slice_get_within, Id, Slot, number, ChainPlace, link, first, FREE, Image, Memory, IsWithin, list_or_first, name_at, chain, links_in, slot_in, slot_at, place_at, put_in, taken_out, edited, in_memory, front_place, held_slots, plain_slots, held, on_list, IsSound, remove_undone, IsRemoved}
 use Rattle.uv_records.specs.Slots as plain
-use Rattle.uv_arena.specs.declared.links.ChainPlace.{ChainPlace}
 use Rattle.uv_arena.specs.declared.undo.RemoveUndo.{RemoveUndo}
-use Rattle.uv_arena.specs.Chains.{link, first}
-use Rattle.uv_arena.specs.declared.links.TheConstants.{FREE}
-use Rattle.uv_arena.specs.Image.{Image, Memory, IsWithin, list_or_first, name_at, chain, links_in, slot_in, slot_at, place_at, put_in, taken_out, edited, in_memory, front_place, held_slots, plain_slots, held, on_list, IsSound}
-use Rattle.uv_arena.specs.Undo.{remove_undone}
-use Rattle.uv_arena.specs.Calls.{IsRemoved}
 use Rattle.uv_arena.proofs.Memories.{place_of, put_made, head_is, slots_relinked, length_relinked, own_relinked, list_relinked, chain_edited, length_edited, linked_edited, own_edited, list_edited, slots_edited, edited_back, others_fit, fit_relinked, fit_edited, all_fit}
 use Rattle.uv_arena.proofs.Places.{between}
 use Rattle.uv_arena.proofs.Lookups.{held_tells, is_loose, on_list_by, name_below}

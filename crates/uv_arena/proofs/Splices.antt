@@ -1,11 +1,6 @@
 -- Two lists change places.
-use Rattle.std.proofs.Common.{◌≡◌, ◌<◌, [], length, refl, sym, ap, ◌∙◌, subst}
-use Rattle.uv_records.specs.declared.lists.ListName.{ListName}
-use Rattle.uv_records.specs.Lists.{number}
+use Rattle.uv_arena.proofs.ProofNames.{◌≡◌, ◌<◌, [], length, refl, sym, ap, ◌∙◌, subst, ListName, number, Image, chain, members, IsSound, spliced, splice_undone, IsSpliced}
 use Rattle.uv_arena.specs.declared.undo.SpliceUndo.{SpliceUndo}
-use Rattle.uv_arena.specs.Image.{Image, chain, members, IsSound}
-use Rattle.uv_arena.specs.Undo.{spliced, splice_undone}
-use Rattle.uv_arena.specs.Calls.{IsSpliced}
 use Rattle.uv_arena.proofs.Names.{number_apart, number_below, swapped_names, swap_twice, names_swapped}
 
 module _ {X : Type 0} where

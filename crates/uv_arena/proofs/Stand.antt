@@ -1,11 +1,5 @@
 -- The lists before and after a relinking.
-use Rattle.std.proofs.Common.{◌≡◌, ◌≢◌, ℕ, ◌<◌, ◌⊎◌, Bool, cond, eqb, eq-eqb, List, slice_get, Option, Some, None, refl, sym, ap, ◌∙◌, subst, inl, inr}
-use Rattle.std.proofs.lemmas.Bool.Decides.{eqb_tells}
-use Rattle.uv_arena.specs.declared.links.TheConstants.{CHAIN_COUNT}
-use Rattle.uv_arena.specs.declared.links.Links.{Links}
-use Rattle.uv_records.specs.declared.lists.Ends.{Ends}
-use Rattle.uv_arena.specs.declared.links.ChainPlace.{ChainPlace}
-use Rattle.uv_arena.specs.Chains.{Chains, loose, each, IsIn, IsList, Stands, ends_of, new_links, none_or, new_ends, relinked}
+use Rattle.uv_arena.proofs.ProofNames.{◌≡◌, ◌≢◌, ℕ, ◌<◌, ◌⊎◌, Bool, cond, eqb, eq-eqb, List, slice_get, Option, Some, None, refl, sym, ap, ◌∙◌, subst, inl, inr, eqb_tells, CHAIN_COUNT, Links, Ends, ChainPlace, Chains, loose, each, IsIn, IsList, Stands, ends_of, new_links, none_or, new_ends, relinked}
 use Rattle.uv_arena.proofs.Each.{get-each, get-each_back}
 use Rattle.uv_arena.proofs.Lists.{segment_tells}
 use Rattle.uv_arena.proofs.Relinking.{eqb_no, own_links, IsFar, untouched, same_list, frame}

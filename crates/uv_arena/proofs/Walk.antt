@@ -1,11 +1,8 @@
 -- A list walked from its head is the list.
-use Rattle.std.proofs.Common.{◌≡◌, ℕ, zero, suc, ◌<◌, ◌≤◌, Bool, true, false, eqb, ◌||◌, List, [], ◌∷◌, length, Option, Some, None, refl, sym, ap, ◌∙◌, subst, inl, inr, arith}
-use Rattle.std.specs.List.{IsDistinct, AllByRecursion, list_any}
-use Rattle.std.proofs.lemmas.Bool.Decides.{eqb_tells}
-use Rattle.std.proofs.lemmas.Option.{slice_get_within}
+use Rattle.uv_arena.proofs.ProofNames.{◌≡◌, ℕ, zero, suc, ◌<◌, ◌≤◌, Bool, true, false, eqb, ◌||◌, List, [], ◌∷◌, length, Option, Some, None, refl, sym, ap, ◌∙◌, subst, inl, inr, arith, AllByRecursion, list_any, eqb_tells, slice_get_within, Links, Chains, first, IsIn, IsApart, IsSegment, IsList, Stands, next_of, head_of}
+use Rattle.std.specs.List.{IsDistinct}
 use Rattle.std.proofs.lemmas.Map.Steps.{length-le_from_distinct_below}
-use Rattle.uv_arena.specs.declared.links.Links.{Links}
-use Rattle.uv_arena.specs.Chains.{Chains, first, IsIn, IsApart, IsSegment, IsList, Stands, next_of, head_of, walk, list_of}
+use Rattle.uv_arena.specs.Chains.{walk, list_of}
 use Rattle.uv_arena.proofs.Lists.{segment_tells}
 use Rattle.uv_arena.proofs.Relinking.{eqb_no}
 

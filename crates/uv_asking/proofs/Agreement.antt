@@ -1,20 +1,11 @@
 -- What the code reads is what the grammar says.
-use Rattle.std.proofs.Common.{if◌then◌else◌, Bool, ◌≡◌, inl, inr, not, ◌==◌, ◌&&◌, ℕ, List, [], ◌∷◌, ◌++◌, true, false, Option, Some, None, refl, ap, sym, subst, ◌∙◌}
-use Rattle.std.specs.Prelude.{IfSome}
+use Rattle.uv_asking.proofs.Names.{if◌then◌else◌, Bool, ◌≡◌, inl, inr, not, ◌==◌, ◌&&◌, ℕ, List, [], ◌∷◌, ◌++◌, true, false, Option, Some, None, refl, ap, sym, subst, ◌∙◌, IfSome, and_parts, cond_both, both_ways, none-some, fields_of, is_line, is_skipped, place_of, is_line_decides, is_skipped_decides, Form, says, word, name, name_but, other_name, number, nth, code, section, callbacks, offer, came, Fits, FitsOne, forms, Says, nothing, one, bad, is_word, name_but_of, other_of, number_in, call_in, which_named, offer_of, came_of, reads, reads_one, said_by, said_of}
 use Rattle.std.specs.Option.{option_or}
-use Rattle.std.proofs.lemmas.Bool.{and_parts, cond_both, both_ways}
-use Rattle.std.proofs.lemmas.Option.{none-some}
 use Rattle.uv_ids.specs.Words.{code_named, phase_named}
-use Rattle.uv_script.specs.Lines.{fields_of}
-use Rattle.uv_script.specs.Checks.{is_line, is_skipped}
-use Rattle.uv_script.specs.Reading.{place_of}
 use Rattle.uv_script.proofs.AfterLines.{line_begins}
-use Rattle.uv_script.proofs.Checks.{is_line_decides, is_skipped_decides}
 use Rattle.uv_asking.specs.declared.part.Part.{Part}
 use Rattle.uv_asking.specs.declared.part.Said.{Said}
 use Rattle.uv_asking.specs.declared.part.Said.TheVariants.{Nothing, Bad}
-use Rattle.uv_asking.specs.Grammar.{Form, says, word, name, name_but, other_name, number, nth, code, section, callbacks, offer, came, Fits, FitsOne, forms, Says, nothing, one, bad}
-use Rattle.uv_asking.specs.Tests.{is_word, name_but_of, other_of, number_in, call_in, which_named, offer_of, came_of, reads, reads_one, said_by, said_of}
 use Rattle.uv_asking.proofs.Found.{Agrees, itself, each, first, first_two}
 use Rattle.uv_asking.proofs.Apart.{Values, are_apart, no_more, not_both, all_apart}
 use Rattle.uv_asking.proofs.FieldWords.{ends, this_word, name_but_found, other_found, number_found, nth_found, which_found, code_agrees, section_agrees, offer_found, came_found}

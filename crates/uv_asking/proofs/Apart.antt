@@ -1,24 +1,13 @@
 -- No two forms fit the same fields. Each has a pattern, whatever is read; where two are as long, a word of the one doesn't fit the other.
-use Rattle.std.proofs.Common.{◌≡◌, ◌≢◌, inl, inr, ℕ, Bool, true, false, not, ◌||◌, ◌&&◌, List, [], ◌∷◌, is_some, refl, ap, sym, subst}
-use Rattle.std.specs.Str.{bytes_eq}
-use Rattle.std.proofs.lemmas.Bool.{and_parts, both_ways, cases_Bool}
-use Rattle.std.proofs.lemmas.Slice.Eq.{bytes_eq-Decides}
-use Rattle.uv_ids.specs.declared.id.Var.{Var}
+use Rattle.uv_asking.proofs.Names.{◌≡◌, ◌≢◌, inl, inr, ℕ, Bool, true, false, not, ◌||◌, ◌&&◌, List, [], ◌∷◌, is_some, refl, ap, sym, subst, bytes_eq, and_parts, both_ways, cases_Bool, bytes_eq-Decides, Var, Event, same, Offer, Wait, Which, Form, Fits, FitsOne, forms, which_named}
 use Rattle.uv_ids.specs.declared.code.Code.{Code}
 use Rattle.uv_ids.specs.declared.code.Code.TheVariants as code
-use Rattle.uv_ids.specs.declared.event.Event.{Event}
 use Rattle.uv_ids.specs.declared.event.Event.TheVariants as event
 use Rattle.uv_ids.specs.declared.phase.Phase.{Phase}
 use Rattle.uv_ids.specs.declared.phase.Phase.TheVariants as phase
 use Rattle.uv_ids.specs.Words.{code_named, phase_named}
-use Rattle.uv_ids.proofs.Words.{same}
-use Rattle.uv_asking.specs.declared.asking.Offer.{Offer}
-use Rattle.uv_asking.specs.declared.asking.Offer.TheVariants.{Wait}
-use Rattle.uv_asking.specs.declared.asking.Which.{Which}
 use Rattle.uv_asking.specs.declared.asking.Which.TheVariants as which
 use Rattle.uv_asking.specs.Grammar as is
-use Rattle.uv_asking.specs.Grammar.{Form, Fits, FitsOne, forms}
-use Rattle.uv_asking.specs.Tests.{which_named}
 use Rattle.uv_asking.proofs.FieldWords.{which_found, code_agrees, section_agrees}
 
 -- ---- patterns

@@ -1,25 +1,9 @@
 -- What a field is.
-use Rattle.std.proofs.Common.{if◌then◌else◌, ◌≡◌, ◌≢◌, ℕ, Bool, true, false, ◌==◌, ◌||◌, ◌&&◌, List, [], ◌∷◌, nat_le, Option, Some, None, option_map, codes, refl, ap, sym, ◌∙◌}
-use Rattle.std.specs.Prelude.{option_and_then, IfSome}
-use Rattle.std.specs.Str.{bytes_eq}
-use Rattle.std.proofs.lemmas.Option.{same_Some, none-some}
-use Rattle.std.proofs.lemmas.Bool.{and_parts, cond_both, both_ways, eqb-true, eq-eqb, leb-true, le-leb}
-use Rattle.std.proofs.lemmas.Slice.Eq.{bytes_eq-Decides}
-use Rattle.uv_ids.specs.declared.id.Var.{Var}
-use Rattle.uv_ids.specs.declared.event.Event.{Event}
+use Rattle.uv_asking.proofs.Names.{if◌then◌else◌, ◌≡◌, ◌≢◌, ℕ, Bool, true, false, ◌==◌, ◌||◌, ◌&&◌, List, [], ◌∷◌, nat_le, Option, Some, None, option_map, codes, refl, ap, sym, ◌∙◌, option_and_then, IfSome, bytes_eq, same_Some, none-some, and_parts, cond_both, both_ways, eqb-true, eq-eqb, leb-true, le-leb, bytes_eq-Decides, Var, Event, same, code_right, code_found, phase_right, phase_found, number_of, none_left, place_of, number_of-sound, number_of-complete, Offer, Step, SendDuring, Take, Wait, WaitFor, Which, IsWithin, IsNth, IsVar, which_word, IsOffer, send, cancel, io, tick, wait, IsCame, take, finish, outside, waited, is_word, name_but_of, other_of, if_within, number_in, call_in, which_named, offer_of, came_by, came_of}
 use Rattle.uv_ids.specs.declared.event.Event.TheVariants as event
 use Rattle.uv_ids.specs.Words.{code_word, code_named, phase_word, phase_named}
-use Rattle.uv_ids.proofs.Words.{same, code_right, code_found, phase_right, phase_found}
-use Rattle.uv_script.specs.Checks.{number_of}
-use Rattle.uv_script.specs.Reading.{none_left, place_of}
-use Rattle.uv_script.proofs.Checks.{number_of-sound, number_of-complete}
-use Rattle.uv_asking.specs.declared.asking.Offer.{Offer}
-use Rattle.uv_asking.specs.declared.asking.Offer.TheVariants.{Step, SendDuring, Take, Wait, WaitFor}
-use Rattle.uv_asking.specs.declared.asking.Which.{Which}
 use Rattle.uv_asking.specs.declared.asking.Which.TheVariants as which
-use Rattle.uv_asking.specs.Grammar.{IsWithin, IsNth, IsVar, which_word, IsOffer, send, cancel, io, tick, wait, IsCame, take, finish, outside, waited}
 use Rattle.uv_asking.specs.Limits.{MOST_COUNT, MOST_MS, MOST_WORKER}
-use Rattle.uv_asking.specs.Tests.{is_word, name_but_of, other_of, if_within, number_in, call_in, which_named, offer_of, came_by, came_of}
 use Rattle.uv_asking.proofs.Found.{Agrees}
 
 pub ends : {A : Type 0} (x : A) (fields : List (List ℕ)) →

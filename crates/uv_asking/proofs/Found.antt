@@ -1,9 +1,5 @@
 -- What a test finds is what holds.
-use Rattle.std.proofs.Common.{◌≡◌, ℕ, List, [], ◌∷◌, Option, Some, None, refl, ap, ◌∙◌}
-use Rattle.std.specs.Prelude.{option_and_then, IfSome}
-use Rattle.std.proofs.lemmas.Option.{same_Some, none-some}
-use Rattle.uv_asking.specs.Grammar.{First, FirstTwo}
-use Rattle.uv_asking.specs.Tests.{next, next_two}
+use Rattle.uv_asking.proofs.Names.{◌≡◌, ℕ, List, [], ◌∷◌, Option, Some, None, refl, ap, ◌∙◌, option_and_then, IfSome, same_Some, none-some, First, FirstTwo, next, next_two}
 
 pub record Agrees {A : Type 0} (o : Option A) (Holds : A → Type 0) : Type 0 where
   pub right : IfSome o Holds

@@ -1,3 +1,4 @@
+pub mod Names
 pub mod Found
 pub mod FieldWords
 pub mod Apart

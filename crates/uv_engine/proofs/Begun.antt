@@ -1,9 +1,5 @@
 -- The line `begin` cuts an input in one way at the most.
-use Rattle.std.proofs.Common.{◌≡◌, ℕ, ◌==◌, false, List, [], ◌∷◌, ◌++◌, refl, ap, sym, subst, ◌∙◌}
-use Rattle.std.specs.Prelude.{codes}
-use Rattle.std.proofs.lemmas.List.Elements.{All-head, All-tail, All-from_recursion}
-use Rattle.uv_engine.specs.Input.{NoFeed}
-use Rattle.uv_engine.specs.Out.{Begins, NeverBegins, here, here_at_end, later, nothing, last_line, one_line}
+use Rattle.uv_engine.proofs.Names.{◌≡◌, ℕ, ◌==◌, false, List, [], ◌∷◌, ◌++◌, refl, ap, sym, subst, ◌∙◌, codes, All-head, All-tail, All-from_recursion, NoFeed, Begins, NeverBegins, here, here_at_end, later, nothing, last_line, one_line}
 
 feed_free : (line rest : List ℕ) (other : List ℕ) → NoFeed other → other ≡ line ++ 10 ∷ rest → ⊥
 feed_free [] rest other h e = let free = All-head (λ b. (b == 10) ≡ false) 10 rest (subst NoFeed e h) in cc free
@@ -40,12 +36,8 @@ begin_free = All-from_recursion (λ b. (b == 10) ≡ false) (codes "begin") (ref
 
 pub begins_one : (i j a b x y : List ℕ) → i ≡ j → Begins i a x → Begins j b y → OneBegin a b x y
 begins_one i j a b x y e (here {commands = c}) (here {commands = d}) = let same : c ≡ d = cc e in record { script = refl; commands = same }
-begins_one i j a b x y e (here {commands = c}) here_at_end = absurd (too_long e) where
-  too_long : codes "begin\n" ++ c ≡ codes "begin" → ⊥
-  too_long f = cc f
-begins_one i j a b x y e here_at_end (here {commands = d}) = absurd (too_long e) where
-  too_long : codes "begin" ≡ codes "begin\n" ++ d → ⊥
-  too_long f = cc f
+begins_one i j a b x y e (here {commands = c}) here_at_end = cc
+begins_one i j a b x y e here_at_end (here {commands = d}) = cc
 begins_one i j a b x y e here_at_end here_at_end = record { script = refl; commands = refl }
 begins_one i j a b x y e (here {commands = c}) (later {line = l} {rest = r} free other more) = let cut = cut_one
     (codes "begin") l c r begin_free free e in absurd (other (sym cut.line))

@@ -1,6 +1,5 @@
 -- A line that was cut off the bytes that were read.
-use Rattle.uv_engine.proofs.Names.{◌≡◌, ℕ, ◌+◌, ◌-◌, ◌<◌, ◌≤◌, ◌==◌, false, true, List, [], ◌∷◌, ◌++◌, Bool, length, length-append, take, drop, refl, ap, sym, subst, ◌∙◌, arith, append_assoc, append-nil, drop-drop, All-append, drop-append-add, drop_all, length-drop, take-append-drop, take-append-le, length-take-le, All-take, Buffered, left, size, IsCut, NoFeed, TakesLine, TakesLong, TakesRest}
-use Rattle.uv_engine.specs.Taking.{SkipsAhead, SameReader}
+use Rattle.uv_engine.proofs.Names.{◌≡◌, ℕ, ◌+◌, ◌-◌, ◌<◌, ◌≤◌, ◌==◌, false, true, List, [], ◌∷◌, ◌++◌, Bool, length, length-append, take, drop, refl, ap, sym, subst, ◌∙◌, arith, append_assoc, append-nil, drop-drop, All-append, drop-append-add, drop_all, length-drop, take-append-drop, take-append-le, length-take-le, All-take, Buffered, left, size, IsCut, NoFeed, TakesLine, TakesLong, TakesRest, SkipsAhead, SameReader}
 use Rattle.uv_engine.proofs.Text.{tail_is}
 
 pub takes_line : (part bytes line rest : List ℕ) (at : ℕ) → NoFeed part → IsCut 10 (take (length bytes - at) (drop at bytes)) line rest
@@ -21,12 +20,6 @@ cut_whole bytes line rest at h =
     let behind : drop (at + (length line + 1)) bytes ≡ rest =
     sym (drop-drop (length line + 1) at bytes) ∙ ap (λ (xs : List ℕ). drop (length line + 1) xs) whole ∙ drop-append-add line (10 ∷ rest) 1 in
     whole ∙ ap (λ (xs : List ℕ). line ++ 10 ∷ xs) (sym behind)
-
-pub cut_within : (bytes line rest : List ℕ) (at : ℕ) → IsCut 10 (take (length bytes - at) (drop at bytes)) line rest → at ≤ length bytes →
-    at + (length line + 1) ≤ length bytes
-cut_within bytes line rest at h in_bytes =
-    let whole = ap length (cut_whole bytes line rest at h) ∙ length-append line (10 ∷ drop (at + (length line + 1)) bytes) in
-    omega (arith, whole, length-drop at bytes, in_bytes)
 
 -- ---- a line that is too long
 
@@ -97,27 +90,11 @@ skips_fed part bytes line rest at ended budget h = record {
 pub skips_all : (part bytes : List ℕ) (at n : ℕ) (ended : Bool) (budget : ℕ) → NoFeed (take (length bytes - at) (drop at bytes)) → length bytes ≤ n →
     SkipsAhead (record { part = part; ahead = drop at bytes; ended = ended; budget = budget }) false
     (record { part = part; ahead = drop n bytes; ended = ended; budget = budget })
-skips_all part bytes at n ended budget h all = record {
-  over = drop at bytes;
-  free = subst NoFeed (tail_is at bytes) h;
-  whole = sym (append-nil (drop at bytes));
-  none = λ _. drop_all n bytes all;
-}
+skips_all part bytes at n ended budget h all = search (drop, tail_is, append-nil, drop_all)
 
 skipped_left : (b c : Buffered) (remaining : List ℕ) → b.part ≡ [] → c.part ≡ b.part → (h : SkipsAhead b false c) →
     left b remaining ≡ h.over ++ left c remaining
-skipped_left b c remaining none same h =
-    let ahead = h.none refl in
-    ap (λ (xs : List ℕ). (xs ++ b.ahead) ++ remaining) none ∙ ap (λ (xs : List ℕ). xs ++ remaining) (h.whole ∙ append-nil h.over)
-    ∙ ap (λ (xs : List ℕ). h.over ++ (([] ++ xs) ++ remaining)) (sym ahead)
-    ∙ ap (λ (xs : List ℕ). h.over ++ ((xs ++ c.ahead) ++ remaining)) (sym (same ∙ none))
-
-fed_left : (b c : Buffered) (remaining : List ℕ) → b.part ≡ [] → c.part ≡ b.part → (h : SkipsAhead b true c) →
-    left b remaining ≡ h.over ++ 10 ∷ left c remaining
-fed_left b c remaining none same h =
-    ap (λ (xs : List ℕ). (xs ++ b.ahead) ++ remaining) none ∙ ap (λ (xs : List ℕ). xs ++ remaining) h.whole
-    ∙ append_assoc h.over (10 ∷ c.ahead) remaining
-    ∙ ap (λ (xs : List ℕ). h.over ++ 10 ∷ ((xs ++ c.ahead) ++ remaining)) (sym (same ∙ none))
+skipped_left b c remaining none same h = grind (arith, append-nil)
 
 -- the line's end was read
 pub rest_fed : (old : List ℕ) (b c : Buffered) (remaining : List ℕ) → IsPassed old (left b remaining) → b.part ≡ [] → c.part ≡ b.part →
@@ -125,17 +102,14 @@ pub rest_fed : (old : List ℕ) (b c : Buffered) (remaining : List ℕ) → IsPa
 rest_fed old b c remaining h none same k = record {
   rest = h.over ++ k.over;
   free = All-append (λ b. (b == 10) ≡ false) h.over k.over h.free k.free;
-  whole = h.whole ∙ ap (λ (xs : List ℕ). h.over ++ xs) (fed_left b c remaining none same k)
-      ∙ sym (append_assoc h.over k.over (10 ∷ left c remaining));
+  whole = grind (arith, append_assoc);
   last = λ e. cc e;
 }
 
 -- more has to be read
 pub passed_ahead : (old : List ℕ) (b c : Buffered) (remaining : List ℕ) → IsPassed old (left b remaining) → b.part ≡ [] → c.part ≡ b.part →
     SkipsAhead b false c → IsPassed old (left c remaining)
-passed_ahead old b c remaining h none same k =
-    passed_then old (left b remaining) (left c remaining) h
-    (record { over = k.over; free = k.free; whole = skipped_left b c remaining none same k })
+passed_ahead old b c remaining h none same k = search (passed_then, skipped_left)
 
 -- the input's end was
 pub rest_last : (old : List ℕ) (b c : Buffered) (remaining : List ℕ) → IsPassed old (left b remaining) → b.part ≡ [] → c.part ≡ b.part →
@@ -144,17 +118,7 @@ rest_last old b c remaining h none same k end =
     let all = passed_ahead old b c remaining h none same k in
     let nothing : left c remaining ≡ [] =
     ap (λ (xs : List ℕ). (xs ++ c.ahead) ++ remaining) (same ∙ none) ∙ ap (λ (xs : List ℕ). xs ++ remaining) (k.none refl) ∙ end in
-    record {
-      rest = all.over;
-      free = all.free;
-      whole = all.whole ∙ ap (λ (xs : List ℕ). all.over ++ xs) nothing;
-      last = λ _. nothing;
-    }
+    grind arith
 
 pub skip_size : (b c : Buffered) (fed : Bool) → c.part ≡ b.part → SkipsAhead b fed c → SameReader b c → size c ≤ size b
-skip_size b c true same h reader =
-    let whole = ap length h.whole ∙ length-append h.over (10 ∷ c.ahead) in
-    omega (arith, whole, length-append b.part b.ahead, length-append c.part c.ahead, ap length same, reader.budget)
-skip_size b c false same h reader =
-    let none = ap length (h.none refl) in
-    omega (arith, none, length-append b.part b.ahead, length-append c.part c.ahead, ap length same, reader.budget)
+skip_size b c fed same h reader = grind (arith, length, length-append)

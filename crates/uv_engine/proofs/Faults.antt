@@ -15,8 +15,7 @@ taken each tells limit a b first mid last h k = grind arith
 pub answer_taken : {A : Type 0} (r : Result A Fault) (tells : Type 0) (limit a b : ℕ) (first mid last : List ℕ) →
     OnAnswer r (tells → b + length mid ≡ a + length last) → (tells → a + length first ≡ limit + length mid) →
     OnAnswer r (tells → TakesWithin limit first last)
-answer_taken {A} (Ok x) tells limit a b first mid last h k = within tells limit a b first mid last h k
-answer_taken {A} (Err f) tells limit a b first mid last h k = taken f tells limit a b first mid last h k
+answer_taken r tells limit a b first mid last h k = grind arith
 
 pub spent : (f : Fault) (tells : Type 0) (a b c : ℕ) (first mid last : List ℕ) → IfOfInput f (tells → c + length mid ≡ b + length last) →
     (tells → b + length first ≡ a + length mid) → IfOfInput f (tells → c + length first ≡ a + length last)
@@ -49,17 +48,7 @@ telling_replays r h = grind arith
 
 -- ---- what was read before this call, and by it
 
-too_long : (tells : Type 0) (limit spent : ℕ) (first mid : List ℕ) (given at given' : ℕ) → (tells → spent + length first ≡ limit + length mid) →
-    (given + limit < 2 ^ 64 - 1 → at + spent ≡ given + limit) → IsTooLong tells spent mid at given' → IsTooLong tells limit first given given'
-too_long tells limit spent first mid given at given' budget gave h = grind arith
-
 pub talk_counts : {A : Type 0} (r : Result A Fault) (tells : Type 0) (limit spent : ℕ) (first mid : List ℕ) (given at given' old between new : ℕ) →
     (tells → spent + length first ≡ limit + length mid) → (given + limit < 2 ^ 64 - 1 → at + spent ≡ given + limit) → between ≡ old →
     ReaderCounts r (IsTooLong tells spent mid at given') between new → ReaderCounts r (IsTooLong tells limit first given given') old new
 talk_counts r tells limit spent first mid given at given' old between new budget gave same e15 = grind arith
-
-pub fault_counts : (A B : Type 0) (f : Fault) (tells : Type 0) (limit spent : ℕ) (first mid : List ℕ) (given at given' old between new : ℕ) →
-    (tells → spent + length first ≡ limit + length mid) → (given + limit < 2 ^ 64 - 1 → at + spent ≡ given + limit) → between ≡ old →
-    ReaderCounts {A = A} (Err f) (IsTooLong tells spent mid at given') between new →
-    ReaderCounts {A = B} (Err f) (IsTooLong tells limit first given given') old new
-fault_counts A B f tells limit spent first mid given at given' old between new budget gave same h = grind arith

@@ -90,12 +90,7 @@ short_of_cut {w} {t} {v} h = record {
 
 -- what was cut short is cut off with nothing to come
 pub cut_of_short : (w t v : List ℕ) → CutShort w t v → CutOff w ((w ++ t) ++ []) v
-cut_of_short w t v h = record {
-  grown = record { part = h.part; is = h.written };
-  rest = h.rest;
-  whole = ap (λ (xs : List ℕ). xs ++ h.rest) h.written ∙ append_assoc w h.part h.rest ∙ ap (λ (xs : List ℕ). w ++ xs) h.whole
-      ∙ sym (append-nil (w ++ t));
-}
+cut_of_short w t v h = grind (arith, append_assoc, append-nil)
 
 -- all was written, and nothing is passed on
 pub cut_behind : (w t v : List ℕ) → v ≡ w ++ t → CutOff w ((w ++ t) ++ []) v

@@ -5,7 +5,7 @@ pub mod Fronts
 pub mod Gathers
 pub mod LongLines
 pub mod Loops
-mod Names
+pub mod Names
 pub mod Near
 mod OneAnswer
 pub mod OneRecording

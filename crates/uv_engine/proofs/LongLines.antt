@@ -1,10 +1,9 @@
 -- Lines that are longer than a line may be.
-use Rattle.uv_engine.proofs.Names.{◌≡◌, ◌≢◌, ℕ, ◌+◌, ◌<◌, ◌≤◌, ◌==◌, List, [], ◌∷◌, ◌++◌, Bool, true, false, length, Result, Ok, Err, IfErr, refl, ap, sym, subst, ◌∙◌, arith, append_assoc, append-nil, length-append, All-head, All-tail, All-append, codes, Fault, Program, lines_of, Draft, IsBadLine, IsBadLineFrom, unread, TakesLine, TakesLong, TakesRest, TakesLineThatAsks, NoFeed, Out, Begins, NeverBegins, BadScript, here, here_at_end, later, one_line, bad_line, bad_input, ReadsScript, ReadsAlone, IsFront, ReadsFront, FrontEnd, Begin, Input, Long, ParsesFront, ParsesNone, IsBeforeLong, NoLineBegins, no_line, line_more, MissesBegin, after_last, at_line, IsStartFault, with_line, Asks, Bad, bad}
-use Rattle.std.specs.List.{onto_first}
+use Rattle.uv_engine.proofs.Names.{◌≡◌, ◌≢◌, ℕ, ◌+◌, ◌<◌, ◌≤◌, ◌==◌, List, [], ◌∷◌, ◌++◌, Bool, true, false, length, Result, Ok, Err, IfErr, refl, ap, sym, subst, ◌∙◌, arith, append_assoc, append-nil, length-append, All-head, All-tail, All-append, codes, Fault, Program, lines_of, Draft, IsBadLine, IsBadLineFrom, unread, TakesLine, TakesLong, TakesRest, TakesLineThatAsks, NoFeed, Out, Begins, NeverBegins, BadScript, here, here_at_end, later, one_line, bad_line, bad_input, ReadsScript, ReadsAlone, IsFront, ReadsFront, FrontEnd, Begin, Input, Long, ParsesFront, ParsesNone, IsBeforeLong, NoLineBegins, no_line, line_more, MissesBegin, after_last, at_line, IsStartFault, with_line, Asks, Bad, bad, onto_first}
 use Rattle.uv_ids.specs.declared.fault.Fault.TheVariants as fault
 use Rattle.uv_script.specs.Grammar as script
 use Rattle.uv_engine.proofs.Talking.{lines_fed}
-use Rattle.uv_engine.proofs.Starting.{CanBegin, Starts, begun, never, starts, parsed, missing, fed_line}
+use Rattle.uv_engine.proofs.Starting.{CanBegin, Starts, begun, never, starts, missing, fed_line}
 
 -- the first line of a text is longer than a line may be
 pub record HasLong (text : List ℕ) : Type 0 where
@@ -53,12 +52,7 @@ pub long_first : (old new : List ℕ) → TakesLong old new → HasLong old
 long_first old new h =
     let some : h.front ≡ [] → ⊥ = λ e. let none : length h.front ≡ 0 = ap length e in omega (arith, none, h.long) in
     let k = first_line h.front new h.free some in
-    record {
-      line = k.line;
-      more = k.more;
-      lines_are = ap lines_of h.whole ∙ k.lines_are;
-      long = omega (arith, k.long, h.long);
-    }
+    grind arith
 
 -- a line that ends behind such bytes is no shorter
 first_long : (long rest line more : List ℕ) → NoFeed long → line ++ 10 ∷ more ≡ long ++ rest → length long ≤ length line
@@ -101,10 +95,7 @@ never_behind _ rest (line_more {line = line} {rest = text} free other h) k =
 
 pub lines_behind : (text more : List ℕ) → NoLineBegins text → lines_of (text ++ more) ≡ lines_of text ++ lines_of more
 lines_behind _ more no_line = refl
-lines_behind _ more (line_more {line = line} {rest = text} free other h) =
-    ap lines_of (behind_line line text more) ∙ lines_fed line (text ++ more) free
-    ∙ ap (λ (ls : List (List ℕ)). line ∷ ls) (lines_behind text more h)
-    ∙ ap (λ (ls : List (List ℕ)). ls ++ lines_of more) (sym (lines_fed line text free))
+lines_behind _ more (line_more {line = line} {rest = text} free other h) = simp (lines_of, behind_line, lines_fed, (lines_behind text more h))
 
 one_more : (text line : List ℕ) → NoLineBegins text → NoFeed line → line ≢ codes "begin" → NoLineBegins (text ++ (line ++ 10 ∷ []))
 one_more _ line no_line free other = line_more free other no_line
@@ -120,9 +111,7 @@ whole_none left some = no_line
 
 pub whole_more : {text before line after more : List ℕ} (fed : Bool) → AreWhole text before → TakesLine before line fed after →
     line ≢ codes "begin" → more ≡ text ++ with_line line fed → AreWhole more after
-whole_more {text} {before} {line} {after} {more} true h k other e some =
-    subst NoLineBegins (sym e) (one_more text line (h (λ none. fed_line line after (sym k.1 ∙ none))) k.0 other)
-whole_more {text} {before} {line} {after} {more} false h k other e some = absurd (some k.3)
+whole_more fed h k other e some = grind (arith, one_more, fed_line)
 
 pub front_long : {input text before : List ℕ} (after : List ℕ) → CanBegin input text before → AreWhole text before → TakesLong before after →
     IsBeforeLong input text after
@@ -164,28 +153,17 @@ long_front input text rest h = at (starts h.behind) where
   }
 
 pub long_refused : (d e : Draft) (line : List ℕ) → 256 < length line → script.Reads d line e → ⊥
-long_refused d e line long (script.skips is skipped) = let short = is.short in omega (arith, short, long)
-long_refused d e line long (script.says s is f2 f3 f4 f5) = let short = is.short in omega (arith, short, long)
+long_refused d e line long e4 = grind arith
 
 -- the first bad line is one of those before it, or this one
 long_bad : (d : Draft) (text behind : List ℕ) (n : ℕ) → NoLineBegins text → HasLong behind → MissesBegin d text n →
     IsBadLineFrom d (text ++ behind) n
-long_bad d text behind _ lines long (after_last p h) = record {
-  before = lines_of text;
-  line = long.line;
-  after = long.more;
-  lines_are = lines_behind text behind lines ∙ ap (λ (ls : List (List ℕ)). lines_of text ++ ls) long.lines_are;
-  counted = refl;
-  draft = record { program = p; said = h.said };
-  read = h.read;
-  refused = λ e. long_refused _ e long.line long.long;
-}
+long_bad d text behind _ lines long (after_last p h) = grind (arith, lines_of, lines_behind, long_refused)
 long_bad d text behind n lines long (at_line h) = record {
   before = h.before;
   line = h.line;
   after = h.after ++ lines_of behind;
-  lines_are = lines_behind text behind lines ∙ ap (λ (ls : List (List ℕ)). ls ++ lines_of behind) h.lines_are
-      ∙ append_assoc h.before (h.line ∷ h.after) (lines_of behind);
+  lines_are = grind (arith, lines_behind, lines_of, append_assoc);
   counted = h.counted;
   draft = h.draft;
   read = h.read;
@@ -198,53 +176,31 @@ bad_front input text rest false n h b = bad_input h.0 (subst (λ (xs : List ℕ)
 
 long_script : (input text rest : List ℕ) (r : Result Program Fault) → IsBeforeLong input text rest → ParsesNone unread text r →
     ReadsScript input r rest
-long_script input text rest (Ok p) h k = absurd k
 long_script input text rest (Err (fault.Script n)) h k =
     let front = long_front input text rest h in
     bad_front input (text ++ front.behind) front.rest front.begun n front.front (long_bad unread text front.behind n h.lines front.long k)
-long_script input text rest (Err _) h k = tt
-
-none_script : (input text rest : List ℕ) (r : Result Program Fault) → IsFront input text false rest → ParsesNone unread text r →
-    ReadsScript input r rest
-none_script input text rest (Ok p) h k = absurd k
-none_script input text rest (Err (fault.Script n)) h k = missing input text n h.0 h.1 k
-none_script input text rest (Err _) h k = tt
+long_script input text rest each h k = grind arith
 
 -- what the text in front of `begin` says
 pub front_read : (input text rest : List ℕ) (end : FrontEnd) (r : Result Program Fault) → ReadsFront input text end rest →
     ParsesFront unread text end r → ReadsScript input r rest
-front_read input text rest Begin r h p = parsed input text rest r h p
-front_read input text rest Input r h p = none_script input text rest r h p
-front_read input text rest Long r h p = long_script input text rest r h p
-
-pub none_fault : (text : List ℕ) (r : Result Program Fault) → ParsesNone unread text r → IfErr r IsStartFault
-none_fault text r h = grind arith
+front_read input text rest end r h p = grind (arith, bad_line, missing, long_script)
 
 pub front_fault : (text : List ℕ) (end : FrontEnd) (r : Result Program Fault) → ParsesFront unread text end r → IfErr r IsStartFault
-front_fault text Begin r h = grind arith
-front_fault text Input r h = none_fault text r h
-front_fault text Long r h = none_fault text r h
+front_fault text each r h = grind arith
 
 -- a script that no commands follow
 pub long_alone : (input text rest : List ℕ) (r : Result Program Fault) → IsBeforeLong input text rest → ParsesNone unread text r → ReadsAlone input r
-long_alone input text rest (Ok p) h k = absurd k
 long_alone input text rest (Err (fault.Script n)) h k =
     let front = long_front input text rest h in
-    record {
-      text = text ++ front.behind;
-      begun = front.begun;
-      rest = front.rest;
-      front = front.front;
-      parses = long_bad unread text front.behind n h.lines front.long k;
-    }
+    grind (arith, long_bad, unread)
 long_alone input text rest (Err fault.Memory) h k = tt
-long_alone input text rest (Err _) h k = absurd k
+long_alone input text rest each h k = grind arith
 
 -- ---- a command
 
 long_asks : (names : List (List ℕ)) (line : List ℕ) → 256 < length line → Asks names line Bad
-long_asks names line long = bad (λ is skipped. let short = is.short in omega (arith, short, long))
-    (λ is. let short = is.short in absurd (omega (arith, short, long)))
+long_asks names line long = grind (arith, bad)
 
 -- the line whose first bytes were taken, and its rest
 long_line : (old mid new : List ℕ) (fed : Bool) (h : TakesLong old mid) (k : TakesRest mid fed new) → TakesLine old (h.front ++ k.rest) fed new

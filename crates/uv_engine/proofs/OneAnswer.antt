@@ -1,9 +1,6 @@
 -- An input has one answer.
-use Rattle.uv_engine.proofs.Names.{◌≡◌, ℕ, List, [], ◌∷◌, ◌++◌, refl, ap, sym, subst, ◌∙◌, nat_lt, nat_le, cond_both, Event, Next, Moves, Refuses, lines_of, IsScript, IsBadLine, Program, some_reading, distinct_names, one_script, no_bad_line, one_bad_line, AreDistinct, Break, Shown, moved_back, moved_forward, BREAKS, Step, Quit, Asked, Do, Bad, Asks, asks, asks_one, Ended, IsAnswer, image_in, images_in, asked_after, Talks, input_ends, quits, goes_on, fresh_session, Ends, BadScript, talks, bad_line, no_begin, bad_input, HasAnswer, HasOneAnswer, Reply, Full, reply, reply_to, reply_after, may_follow, back_after, forward_after, add_after, break_back_after, has_step, PrintsFor, done_after}
-use Rattle.std.specs.Prelude.{zero, suc, length, Option, Some, None}
+use Rattle.uv_engine.proofs.Names.{◌≡◌, ℕ, List, [], ◌∷◌, ◌++◌, refl, ap, sym, subst, ◌∙◌, nat_lt, nat_le, cond_both, Event, Next, Moves, Refuses, lines_of, IsScript, IsBadLine, Program, some_reading, distinct_names, one_script, no_bad_line, one_bad_line, AreDistinct, Break, Shown, moved_back, moved_forward, BREAKS, Step, Quit, Asked, Do, Bad, Asks, asks, asks_one, Ended, IsAnswer, image_in, images_in, asked_after, Talks, input_ends, quits, goes_on, fresh_session, Ends, BadScript, talks, bad_line, no_begin, bad_input, HasAnswer, HasOneAnswer, Reply, Full, reply, reply_to, reply_after, may_follow, back_after, forward_after, add_after, break_back_after, has_step, PrintsFor, done_after, zero, suc, length, Option, Some, None, next, after}
 use Rattle.uv_ids.specs.declared.event.Event.TheVariants as event
-use Rattle.uv_model.specs.Next.{next}
-use Rattle.uv_model.specs.After.{after}
 use Rattle.uv_engine.specs.Reply.{loop_after}
 use Rattle.uv_engine.proofs.Begun.{begins_one, never_begins}
 use Rattle.uv_engine.proofs.Starting.{some_out}
@@ -121,8 +118,7 @@ one_answer input a b x y (talks {end = f} script commands p begins is talk) (tal
 one_answer input a b x y (talks script commands p begins is talk) (bad_line {number = m} script' commands' begins' bad) =
     let one = begins_one input input script script' commands commands' refl begins begins' in
     absurd (no_bad_line script p m is (subst (λ (z : List ℕ). IsBadLine z m) (sym one.script) bad))
-one_answer input a b x y (talks script commands p begins is talk) (no_begin p' never is') = absurd
-    (never_begins input input script commands refl begins never)
+one_answer input a b x y (talks script commands p begins is talk) (no_begin p' never is') = search never_begins
 one_answer input a b x y (talks script commands p begins is talk) (bad_input never bad) = absurd
     (never_begins input input script commands refl begins never)
 one_answer input a b x y (bad_line script commands begins bad) (talks script' commands' p' begins' is' talk') =

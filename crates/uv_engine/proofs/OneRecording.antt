@@ -91,12 +91,9 @@ never_halts q es _ taken (refused before rest e why cut accepted less is_refused
     grind (arith, not_refused)
 never_halts q es _ taken (full before rest e cut accepted all) = grind (arith, length-append)
 
-pub never_apart : (xs : List (List ℕ)) → AreApart xs xs → ⊥
-never_apart xs h = grind arith
-
 only_same : (q : Program) (es : List Event) (called : List (List ℕ)) (v : Verdict) → AllTaken q es → called ≡ callback_lines q es →
     IsVerdict q es called v → v ≡ Same
-only_same q es called v taken is_called e6 = grind (arith, never_halts, append_cancel_left, never_apart)
+only_same q es called v taken is_called e6 = grind (arith, never_halts, append_cancel_left)
 
 -- the verdict on what was read
 abbrev pub Judged : Verdict → Part → Type 0

@@ -1,9 +1,7 @@
 -- A text has one verdict, or one first bad line, and not both.
-use Rattle.uv_engine.proofs.Names.{◌≡◌, ℕ, suc, ◌+◌, ◌<◌, List, [], ◌∷◌, ◌++◌, length, take, get_or, refl, ap, ap₂, sym, subst, ◌∙◌, arith, get_or-append_seam, append_cancel_left, take-append-le, take_all, get_or_append_left, Event, Why, Program, lines_of, Next, Refuses, not_refused, callback_lines, Verdict, Differs, Refused, Part, Start, Whole, Reads, ReadsAll, none, one, IsStuck, IsHalt, refused, full, AreApart, PartAt, IsVerdict, halts, same, differs, HasVerdict, HasOneVerdict}
-use Rattle.uv_model.specs.Next.{next}
-use Rattle.uv_model.specs.After.{after, Accepts}
+use Rattle.uv_engine.proofs.Names.{◌≡◌, ℕ, suc, ◌+◌, ◌<◌, List, [], ◌∷◌, ◌++◌, length, take, get_or, refl, ap, ap₂, sym, subst, ◌∙◌, arith, get_or-append_seam, append_cancel_left, take-append-le, take_all, get_or_append_left, Event, Why, Program, lines_of, Next, Refuses, not_refused, callback_lines, Verdict, Differs, Refused, Part, Start, Whole, Reads, ReadsAll, none, one, IsStuck, IsHalt, refused, full, AreApart, PartAt, IsVerdict, halts, same, differs, HasVerdict, HasOneVerdict, next, after, Accepts}
 use Rattle.uv_engine.specs.Recordings.{IsBadLine}
-use Rattle.uv_engine.proofs.OneRecording.{IsDistinct, Judged, one_part, distinct_part, all_one, never_halts, never_apart}
+use Rattle.uv_engine.proofs.OneRecording.{IsDistinct, Judged, one_part, distinct_part, all_one, never_halts}
 
 -- neither number is below the other
 same_number : (n m : ℕ) → (n < m → ⊥) → (m < n → ⊥) → n ≡ m
@@ -58,17 +56,11 @@ one_halt p es _ _ (full before rest e cut accepted all) (full before' rest' e' c
 one_place : (s t l l' r r' : List (List ℕ)) → s ++ l ≡ t ++ l' → s ++ r ≡ t ++ r' → AreApart l r → AreApart l' r' → length s ≡ length t
 one_place [] [] l l' r r' e f a b = refl
 one_place [] (y ∷ t) l l' r r' e f a b = grind arith
-one_place (x ∷ s) [] l l' r r' e f a b =
-    let both = subst (AreApart (x ∷ s ++ l)) (sym f) (subst (λ (xs : List (List ℕ)). AreApart xs r') (sym e) b) in
-    absurd (both refl)
+one_place (x ∷ s) [] l l' r r' e f a b = grind arith
 one_place (x ∷ s) (y ∷ t) l l' r r' e f a b =
     let left : s ++ l ≡ t ++ l' = cc in
     let right : s ++ r ≡ t ++ r' = cc in
     ap suc (one_place s t l l' r r' left right a b)
-
--- two lists that are one part nowhere
-not_parted : (xs ys : List (List ℕ)) (n : ℕ) → xs ≡ ys → PartAt xs ys n → ⊥
-not_parted xs ys n e h = grind (arith, append_cancel_left, never_apart)
 
 one_of_these : (p : Program) (es : List Event) (called : List (List ℕ)) (v w : Verdict) → IsVerdict p es called v → IsVerdict p es called w → v ≡ w
 one_of_these p es called _ _ (halts v h) (halts w k) = one_halt p es v w h k
@@ -76,9 +68,9 @@ one_of_these p es called _ _ (halts v h) (same t e) = absurd (never_halts p es v
 one_of_these p es called _ _ (halts v h) (differs n t k) = absurd (never_halts p es v t h)
 one_of_these p es called _ _ (same t e) (halts w k) = absurd (never_halts p es w t k)
 one_of_these p es called _ _ (same t e) (same u f) = refl
-one_of_these p es called _ _ (same t e) (differs n u k) = absurd (not_parted called (callback_lines p es) n e k)
+one_of_these p es called _ _ (same t e) (differs n u k) = absurd (grind (arith, append_cancel_left))
 one_of_these p es called _ _ (differs m t h) (halts w k) = absurd (never_halts p es w t k)
-one_of_these p es called _ _ (differs m t h) (same u f) = absurd (not_parted called (callback_lines p es) m f h)
+one_of_these p es called _ _ (differs m t h) (same u f) = absurd (grind (arith, append_cancel_left))
 one_of_these p es called _ _ (differs m t h) (differs n u k) = ap Differs (grind (arith, one_place))
 
 verdicts : (text : List ℕ) (v w : Verdict) → HasVerdict text v → HasVerdict text w → v ≡ w

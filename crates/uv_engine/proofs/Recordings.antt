@@ -74,18 +74,7 @@ bad_end x a b old n e h = record {
 
 -- each line that goes on somewhere has 256 bytes at the most
 long_stuck : (x : Part) (line : List ℕ) → 256 < length line → (y : Part) → Reads x line y → ⊥
-long_stuck _ _ long _ (version versions.V1) = absurd (omega (arith, long))
-long_stuck _ _ long _ (version versions.V2) = absurd (omega (arith, long))
-long_stuck _ _ long _ (version versions.V3) = absurd (omega (arith, long))
-long_stuck _ line long _ (in_script {d = d} {e = e} says h) = long_refused d e line long h
-long_stuck _ _ long _ begins = absurd (omega (arith, long))
-long_stuck _ line long _ (step (recorded.loop is)) = let short : length line ≡ 4 = ap length is in omega (arith, short, long)
-long_stuck _ line long _ (step (recorded.outside e is f2 f3)) = let short = is.short in omega (arith, short, long)
-long_stuck _ _ long _ calls = absurd (omega (arith, long))
-long_stuck _ line long _ (callback (recorded.call text is f2)) = let short = is.short in omega (arith, short, long)
-long_stuck _ line long _ (callback (recorded.after text is f2)) = let short = is.short in omega (arith, short, long)
-long_stuck _ line long _ (callback (recorded.closed text is f2)) = let short = is.short in omega (arith, short, long)
-long_stuck _ _ long _ ends = absurd (omega (arith, long))
+long_stuck x line long y e4 = grind arith
 
 long_bad : (x : Part) (a n : ℕ) (old new : List ℕ) → n ≡ a + 1 → TakesLong old new → IsBadFrom x a old n
 long_bad x a n old new e h =
@@ -238,8 +227,7 @@ front_outside s input text rest Input a n m h (after_last p is) say e = script_m
 front_outside s input text rest Input a n m h (at_line bad) say e =
     script_bad s input text [] a n m (ap lines_of h.1 ∙ sym (append-nil (lines_of text)))
     (subst (λ (xs : List ℕ). NoBegin (lines_of xs)) h.1 (never_begin input h.0)) bad say e
-front_outside s input text rest Long a n m h (after_last p is) say e =
-    script_long s input text h.behind p a m (long_lines input text rest h) (long_first h.behind rest h.takes) is say e
+front_outside s input text rest Long a n m h (after_last p is) say e = search (script_long, long_lines, long_first)
 front_outside s input text rest Long a n m h (at_line bad) say e =
     script_bad s input text (lines_of h.behind) a n m (long_lines input text rest h) (none_begin text h.lines) bad say e
 
@@ -252,9 +240,8 @@ abbrev FrontLines : List ℕ → List ℕ → Type 0
 FrontLines input text = (behind : List (List ℕ)) × (lines_of input ≡ lines_of text ++ behind)
 
 front_lines : (input text rest : List ℕ) (end : FrontEnd) → ReadsFront input text end rest → FrontLines input text
-front_lines input text rest Begin h = (codes "begin" ∷ lines_of rest, (fronts input text rest h).lines_are)
-front_lines input text rest Input h = ([], ap lines_of h.1 ∙ sym (append-nil (lines_of text)))
 front_lines input text rest Long h = (lines_of h.behind, long_lines input text rest h)
+front_lines input text rest each h = grind (arith, codes, lines_of, fronts, append-nil, long_lines)
 
 -- the script of the lines before one
 abbrev ReadsSome : Draft → List (List ℕ) → Type 0
@@ -300,8 +287,7 @@ pub front_skipped : (s : Draft) (input text rest : List ℕ) (end : FrontEnd) (p
     ParsesFront s text end (Ok p) → IsFirstSkipped (lines_of text) n → m ≡ a + n → IsBadFrom (InScript s) a input m
 front_skipped s input text rest Begin p a n m h is first e =
     skipped_bad s input text a n m (front_lines input text rest Begin h) first (before_skipped s text p n first is) e
-front_skipped s input text rest Input p a n m h is first e = absurd is
-front_skipped s input text rest Long p a n m h is first e = absurd is
+front_skipped s input text rest each p a n m h is first e = grind arith
 
 -- the first line that is outside the grammar or skipped
 pub front_bad : (s : Draft) (input text rest : List ℕ) (end : FrontEnd) (skipped : Option ℕ) (a k n m : ℕ) → ReadsFront input text end rest →

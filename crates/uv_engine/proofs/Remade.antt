@@ -40,18 +40,12 @@ none_mapped : {A : Type 0} (f : A → List ℕ) (xs : List A) → ((x : A) → I
 none_mapped f [] each = tt
 none_mapped f (x ∷ xs) each = (each x, none_mapped f xs each)
 
-main_says : (names : List (List ℕ)) (o : MainOp) → IsSkipped (main_line names o) → ⊥
-main_says names o = grind arith
-
 callback_says : (names : List (List ℕ)) (kind : Callback) (v : Var) (line : CallbackLine) → IsSkipped (callback_line names kind v line) → ⊥
 callback_says names each v line = grind arith
 
 callbacks_say : (p : Program) (n : ℕ) (names : List (List ℕ)) → NoneSkipped (script_callbacks p n names)
 callbacks_say p n [] = tt
 callbacks_say p n (name ∷ names) = search (none_mapped, callback_says, none_append, (callbacks_say p (n + 1) names))
-
-settings_say : (p : Program) → NoneSkipped (setting_lines p)
-settings_say p = grind arith
 
 steps_on : (p : Program) (before es : List Event) → AllByRecursion (Said p) es →
     ReadsAll (InSteps p before) (map (step_line p.names) es) (InSteps p (before ++ es))
@@ -148,7 +142,7 @@ are_read p es h =
     (reads_on Start (InSteps p es) (InCalls p es called) (ks ++ bs) cs
     (reads_on Start (InScript d) (InSteps p es) ks bs
     (one (subst (λ (l : List ℕ). Reads Start l (InScript (unread_in h.version))) (sym h.first) (version h.version))
-    (grind (arith, script_on, none_append, settings_say, none_mapped, begins_says, main_says, callbacks_say)))
+    (grind (arith, script_on, none_append, none_mapped, begins_says, callbacks_say)))
     (one begins (steps_on p [] es h.steps)))
     (one calls (calls_on p es [] called h.called))) (one ends none)
 

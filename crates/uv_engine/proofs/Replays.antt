@@ -33,9 +33,7 @@ version_bad a b old line new fed n takes other = bad_line Start a b old line new
 pub front_read : (s : Draft) (input text rest : List ℕ) (end : FrontEnd) (p : Program) (a n : ℕ) → ReadsFront input text end rest →
     ParsesFront s text end (Ok p) → NoneSkipped (lines_of text) → n ≡ length (lines_of text) →
     ReadsTo (InScript s) a input (InSteps p []) (a + (n + 1)) rest
-front_read s input text rest Begin p a n h is say e = grind (arith, script_read)
-front_read s input text rest Input p a n h is say e = absurd is
-front_read s input text rest Long p a n h is say e = absurd is
+front_read s input text rest each p a n h is say e = grind (arith, script_read)
 
 -- ---- the steps
 
@@ -75,11 +73,6 @@ pub steps_bad : {p : Program} {a b : ℕ} {old mid : List ℕ} {xs : List Event}
 steps_bad {p} {a} {b} {old} {mid} {xs} {h} c line new fed so n takes other none =
     bad_then (InSteps p []) (InSteps p so.steps) a b c old mid so.reads
     (bad_line (InSteps p so.steps) b c mid line new fed n takes (grind arith))
-
-pub steps_missing : {p : Program} {a b : ℕ} {old mid : List ℕ} {xs : List Event} {h : Option Verdict} (c : ℕ) →
-    StepsSo p a old b mid xs h → c ≡ b + 1 → mid ≡ [] → IsBadFrom (InSteps p []) a old c
-steps_missing {p} {a} {b} {old} {mid} {xs} {h} c so k e =
-    bad_then (InSteps p []) (InSteps p so.steps) a b c old mid so.reads (bad_end (InSteps p so.steps) b c mid k e tt)
 
 -- the next line couldn't be had
 pub steps_fail : {p : Program} {a b : ℕ} {old mid : List ℕ} {xs : List Event} {h : Option Verdict} (new : List ℕ) (f : Fault) →
@@ -180,8 +173,7 @@ judges {p} {a} {b} {input} {mid} {rest} s (Ok v) h k is =
     let front = reads_then Start (InScript s) (InSteps p []) 0 a b input mid rest h k in
     let all = reads_then Start (InSteps p []) (Whole p is.steps is.called) 0 b is.taken input rest [] front is.reads in
     grind (arith, append-nil)
-judges {p} {a} {b} {input} {mid} {rest} s (Err f) h k is =
-    fails_then Start (InSteps p []) 0 b input rest f (reads_then Start (InScript s) (InSteps p []) 0 a b input mid rest h k) is
+judges {p} {a} {b} {input} {mid} {rest} s (Err f) h k is = search (fails_then, reads_then)
 
 pub fails_replay : (input old : List ℕ) (f : Fault) → FailsAt Start 0 input f → Replays input (Err f) old old
 fails_replay input old (fault.Script line) h = verdict.bad_line line refl h refl

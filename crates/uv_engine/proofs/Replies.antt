@@ -1,6 +1,5 @@
 -- What a session answers, as a reply.
-use Rattle.uv_engine.proofs.Names.{◌≡◌, ℕ, suc, zero, inl, inr, ◌<◌, ◌≤◌, List, [], ◌∷◌, length, true, false, take, codes, ◌-◌, ◌++◌, length-take, length-append, Some, None, Ok, Err, refl, ap, sym, subst, ◌∙◌, arith, cases_order, nat_tests, Event, Outcome, Why, Program, Break, Shown, TakesEvent, moved_back, moved_forward, BREAKS, stops_at, NoneFrom, IsLastBreak, Took, Full, reply, break_text, at_text, back_text, back_after, forward_text, forward_after, add_text, add_after, last_match, last_break, break_back_text, break_back_after, append_assoc, append-nil, Option, Seen, stops, appended_text, stop_text}
-use Rattle.std.proofs.Common.{nat_lt, nat_le}
+use Rattle.uv_engine.proofs.Names.{◌≡◌, ℕ, suc, zero, inl, inr, ◌<◌, ◌≤◌, List, [], ◌∷◌, length, true, false, take, codes, ◌-◌, ◌++◌, length-take, length-append, Some, None, Ok, Err, refl, ap, sym, subst, ◌∙◌, arith, cases_order, nat_tests, Event, Outcome, Why, Program, Break, Shown, TakesEvent, moved_back, moved_forward, BREAKS, stops_at, NoneFrom, IsLastBreak, Took, Full, reply, break_text, at_text, back_text, back_after, forward_text, forward_after, add_text, add_after, last_match, last_break, break_back_text, break_back_after, append_assoc, append-nil, Option, Seen, stops, appended_text, stop_text, nat_lt, nat_le}
 use Rattle.uv_ids.specs.declared.fault.Fault.TheVariants as fault
 use Rattle.uv_engine.specs.Reply.{Refused}
 
@@ -42,9 +41,6 @@ pub ruleset replies = (took, refused, full)
 
 -- ---- moves
 
-length-rest : (k : ℕ) (es : List Event) → k ≤ length es → length (take k es) ≡ k
-length-rest k es l = rw length-take (omega arith)
-
 nat_le_true : (m n : ℕ) → m ≤ n → nat_le m n ≡ true
 nat_le_true m n h = grind (arith, nat_tests)
 
@@ -54,7 +50,7 @@ nat_le_false m n h = grind (arith, nat_tests)
 -- so many steps were taken back
 pub back_text-taken : (n : ℕ) (s t : Shown) → n ≤ length s.standing → t ≡ moved_back n s
     → back_text n s ≡ at_text (length t.standing)
-back_text-taken n s t l e = grind (arith, length-rest, nat_le_true)
+back_text-taken n s t l e = grind (arith, length-take, nat_le_true)
 
 pub back_after-taken : (n : ℕ) (s t : Shown) → n ≤ length s.standing → t ≡ moved_back n s → t ≡ back_after n s
 back_after-taken n s t l e = rw (nat_le_true n (length s.standing) l) e
@@ -70,7 +66,7 @@ pub ruleset backs = (back_text-taken, back_after-taken, back_text-refused, back_
 
 -- so many steps were run again
 pub forward_text-taken : (n : ℕ) (s t : Shown) → n ≤ length s.taken_back → t ≡ moved_forward n s → forward_text n s ≡ at_text (length t.standing)
-forward_text-taken n s t l e = grind (arith, length-append, length-rest, nat_le_true)
+forward_text-taken n s t l e = grind (arith, length-append, length-take, nat_le_true)
 
 pub forward_after-taken : (n : ℕ) (s t : Shown) → n ≤ length s.taken_back → t ≡ moved_forward n s → t ≡ forward_after n s
 forward_after-taken n s t l e = rw (nat_le_true n (length s.taken_back) l) e

@@ -1,9 +1,7 @@
 -- The steps of a recording, run again, and its callbacks, compared.
-use Rattle.uv_engine.proofs.Names.{◌≡◌, ℕ, suc, ◌+◌, ◌-◌, ◌<◌, ◌≤◌, List, [], ◌∷◌, ◌++◌, true, false, length, map, drop, Option, Some, None, Ok, Err, refl, ap, sym, subst, ◌∙◌, arith, append_assoc, append-nil, length-append, slice_get, option_to_list, flat_map, filter, drop_all, get_or_from_slice_get, filter-append, Event, Seen, Why, Program, Outcome, Refuses, Answers, STEPS, accepts-push, length-seen_by, line_text, is_callback, callback_lines, Verdict, Same, Differs, Refused, IsHalt, refused, full, AllTaken, AreApart, PartAt, IsVerdict, halts, same, differs, RanSo, MetSo, called_from}
+use Rattle.uv_engine.proofs.Names.{◌≡◌, ℕ, suc, ◌+◌, ◌-◌, ◌<◌, ◌≤◌, List, [], ◌∷◌, ◌++◌, true, false, length, map, drop, Option, Some, None, Ok, Err, refl, ap, sym, subst, ◌∙◌, arith, append_assoc, append-nil, length-append, slice_get, option_to_list, flat_map, filter, drop_all, get_or_from_slice_get, filter-append, Event, Seen, Why, Program, Outcome, Refuses, Answers, STEPS, accepts-push, length-seen_by, line_text, is_callback, callback_lines, Verdict, Same, Differs, Refused, IsHalt, refused, full, AllTaken, AreApart, PartAt, IsVerdict, halts, same, differs, RanSo, MetSo, called_from, next, seen_by}
 use Rattle.std.proofs.Math.Seq.{drop-cons}
 use Rattle.uv_ids.specs.declared.fault.Fault.TheVariants as fault
-use Rattle.uv_model.specs.Next.{next}
-use Rattle.uv_model.specs.After.{seen_by}
 use Rattle.uv_engine.specs.declared.verdict.Verdict.TheVariants.{Full}
 
 -- ---- the steps

@@ -54,9 +54,6 @@ begins_here before line after true k e = subst (λ (xs : List ℕ). Begins xs []
 begins_here before line after false k e = subst (λ (xs : List ℕ). Begins before [] xs) (sym k.3)
     (subst (λ (xs : List ℕ). Begins xs [] []) (sym (k.2 ∙ e)) here_at_end)
 
-pub parsed : (input text after : List ℕ) (r : Result Program Fault) → Begins input text after → Parses text r → ReadsScript input r after
-parsed input text after r b h = grind (arith, bad_line)
-
 -- the line `begin` was read
 pub front_begun : {input text before line : List ℕ} (after : List ℕ) (fed : Bool) → CanBegin input text before → TakesLine before line fed after →
     line ≡ codes "begin" → Begins input text after

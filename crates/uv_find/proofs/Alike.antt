@@ -1,49 +1,16 @@
 -- Places of whose states the same is told, with as much left and kept, go on alike.
-use Rattle.std.proofs.Common.{◌≡◌, ℕ, ◌+◌, ◌-◌, ◌<◌, ◌≤◌, ◌&&◌, not, Bool, true, false, List, [], ◌∷◌, ◌++◌, length, Option, Some, None, inl, inr, nat_le, nat_lt, refl, ap, ap₂, sym, subst, ◌∙◌, arith, if◌then◌else◌}
-use Rattle.std.proofs.lemmas.Bool.{ltb-true}
-use Rattle.uv_ids.specs.declared.event.Event.{Event}
-use Rattle.uv_ids.specs.declared.event.Event.TheVariants.{Loop, Take, Finish, Cancel, Send, Io, Tick}
-use Rattle.uv_ids.specs.declared.id.Id.{Id}
-use Rattle.uv_ids.specs.declared.id.Var.{Var}
-use Rattle.uv_ids.specs.declared.seen.Callback.{Callback}
+use Rattle.uv_find.proofs.Names.{◌≡◌, ℕ, ◌+◌, ◌-◌, ◌<◌, ◌≤◌, ◌&&◌, not, Bool, true, false, List, [], ◌∷◌, ◌++◌, length, Option, Some, None, inl, inr, nat_le, nat_lt, refl, ap, ap₂, sym, subst, ◌∙◌, arith, if◌then◌else◌, ltb-true, Event, Loop, Take, Finish, Cancel, Send, Io, Tick, Id, Var, Callback, Seen, held, Content, Program, arena_size, LATEST, Next, Moves, Refuses, State, named, ClockFits, IsShort, told_line, IsRegular, LeadsRegular, StepsAlike, NextAlike, is_of_worker, next_by, AreDeclared, tale, Reads, reads_alike, Most, Offer, Offered, Question, Kept, Left, LONG, LONGEST, is_common, most_end, due_under, due_else, due_in, due_of, kept_due, is_timer, Rules, Place, aim, is_made, is_free, spending, step_of, is_blocked, refused_as_blocked, deadline_at, wait_until, take_by, may_last, ends_within, is_in_poll, wait_for, idle_worker, by_rank, ranked, is_in_timers, is_quiet, event_of, timed, is_brief, brief, may_take, offered_here, offered_by, is_called_within, is_within, Spot, CanForget, IsSpot, AreBrief, is_few}
 use Rattle.uv_ids.specs.declared.seen.Callback.TheVariants as callback
-use Rattle.uv_ids.specs.declared.seen.Seen.{Seen}
-use Rattle.uv_records.specs.Slots.{held}
-use Rattle.uv_work.specs.declared.content.Content.{Content}
 use Rattle.uv_work.specs.declared.content.Content.TheVariants as content
-use Rattle.uv_script.specs.Program.{Program, arena_size}
 use Rattle.uv_model.specs.After.{after}
-use Rattle.uv_model.specs.Limits.{LATEST}
-use Rattle.uv_model.specs.Next.{Next, Moves, Refuses, next}
-use Rattle.uv_model.specs.State.{State, named}
-use Rattle.uv_shift.specs.Shift.{ClockFits, IsShort}
+use Rattle.uv_model.specs.Next.{next}
 use Rattle.uv_shift.proofs.Reached.{after_timed}
 use Rattle.uv_generations.proofs.Reached.{after_young}
-use Rattle.uv_tale.specs.Alike.{told_line, IsRegular, LeadsRegular, StepsAlike, NextAlike}
-use Rattle.uv_workers.specs.Workers.{is_of_worker, next_by}
-use Rattle.uv_slots.specs.NamedForm.{AreDeclared}
 use Rattle.uv_slots.proofs.Keeping.{after_can}
 use Rattle.uv_slots.proofs.Reached.{after_tidy}
-use Rattle.uv_tale.specs.Tale.{tale}
 use Rattle.uv_tale.proofs.Steps as laws
-use Rattle.uv_tale.proofs.Reading.{Reads, reads_alike}
-use Rattle.uv_asking.specs.declared.asking.Most.{Most}
-use Rattle.uv_asking.specs.declared.asking.Offer.{Offer}
 use Rattle.uv_asking.specs.declared.asking.Offer.TheVariants as offers
-use Rattle.uv_asking.specs.declared.asking.Offered.{Offered}
-use Rattle.uv_asking.specs.declared.asking.Question.{Question}
 use Rattle.uv_asking.specs.declared.asking.Question.TheVariants as asks
-use Rattle.uv_find.specs.declared.kept.Kept.{Kept}
-use Rattle.uv_find.specs.declared.left.Left.{Left}
-use Rattle.uv_find.specs.Forgetting.{LONG, LONGEST, is_common, most_end}
-use Rattle.uv_find.specs.Kept.{due_under, due_else, due_in, due_of, kept_due}
-use Rattle.uv_records.specs.Handles.{is_timer}
-use Rattle.uv_find.specs.Orders.{Rules, Place, aim, is_made, is_free, spending, step_of, is_blocked, refused_as_blocked, deadline_at, wait_until, take_by, may_last, ends_within, is_in_poll, wait_for}
-use Rattle.uv_find.specs.Ranks.{idle_worker, by_rank, ranked}
-use Rattle.uv_find.specs.Kept.{is_in_timers}
-use Rattle.uv_find.specs.Orders.{is_quiet}
-use Rattle.uv_find.specs.Orders.{event_of, timed, is_brief, brief, may_take, offered_here, offered_by, is_called_within, is_within}
-use Rattle.uv_find.specs.Spots.{Spot, CanForget, IsSpot, AreBrief, is_few}
 use Rattle.uv_find.proofs.Clocks.{after_clock}
 use Rattle.uv_find.proofs.Led.{length_more, state_behind}
 use Rattle.uv_find.proofs.Lines.{plain_line}

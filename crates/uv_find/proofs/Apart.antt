@@ -1,43 +1,12 @@
 -- A move that is held back does behind the loop's step what it does before it.
-use Rattle.std.proofs.Common.{◌≡◌, ℕ, suc, ◌+◌, ◌&&◌, Bool, true, false, List, [], ◌∷◌, length, nat_lt, nat_le, is_none, slice_get, slice_set, refl, sym, ap, subst, ◌∙◌, Option, Some, None, Result, if◌then◌else◌, arith}
-use Rattle.std.specs.List.{position_from}
-use Rattle.std.proofs.lemmas.Grind.{elements}
-use Rattle.std.proofs.lemmas.Option.{same_Some, none-some}
-use Rattle.uv_ids.specs.declared.event.Event.{Event}
+use Rattle.uv_find.proofs.Names.{◌≡◌, ℕ, suc, ◌+◌, ◌&&◌, Bool, true, false, List, [], ◌∷◌, length, nat_lt, nat_le, is_none, slice_get, slice_set, refl, sym, ap, subst, ◌∙◌, Option, Some, None, Result, if◌then◌else◌, arith, position_from, elements, same_Some, none-some, Event, Id, Var, Why, Seen, Callback, Named, Program, Request, Run, State, named, live_handle, Moves, Refuses, next_work, finish, work_of, tick, io_run, io_handle, call_io, LATEST, count_of, is_apart, Offer, Step, SendDuring, Wait, WaitFor, Which, Question, Recorded, Along, Kept, Left, Most, can_meet, asks_late, is_at_will, may_take_io, kept_after, kept_due, owed_after, along_after, owes, time_at_end, Rules, Place, is_made, is_free, is_within, take_by, event_of, step_of, wait_until, deadline_at, lessened, lessened_by, may_last, wait_for, is_blocked, keys_run, idle_worker, finish_by, ranked, is_call, line_answers, place_answers, is_uncalled, Range}
 use Rattle.uv_ids.specs.declared.event.Event.TheVariants as event
-use Rattle.uv_ids.specs.declared.id.Id.{Id}
-use Rattle.uv_ids.specs.declared.id.Var.{Var}
-use Rattle.uv_ids.specs.declared.fault.Why.{Why}
-use Rattle.uv_ids.specs.declared.seen.Seen.{Seen}
 use Rattle.uv_ids.specs.declared.seen.Seen.TheVariants as seen
-use Rattle.uv_ids.specs.declared.seen.Callback.{Callback}
-use Rattle.uv_records.specs.declared.named.Named.{Named}
-use Rattle.uv_script.specs.Program.{Program}
-use Rattle.uv_work.specs.declared.request.Request.{Request}
-use Rattle.uv_model.specs.declared.place.Run.{Run}
-use Rattle.uv_model.specs.State.{State, named, live_handle}
-use Rattle.uv_model.specs.Next.{Moves, Refuses, next, take, next_work, finish, work_of, tick, io_run, io_handle, call_io}
-use Rattle.uv_model.specs.Limits.{LATEST}
-use Rattle.uv_ids.specs.declared.fault.Why.TheVariants.{Range}
+use Rattle.uv_model.specs.Next.{next, take}
 use Rattle.uv_records.specs.Names as names
-use Rattle.uv_records.specs.Names.{count_of}
-use Rattle.uv_apart.specs.Apart.{is_apart}
-use Rattle.uv_asking.specs.declared.asking.Offer.{Offer}
-use Rattle.uv_asking.specs.declared.asking.Offer.TheVariants.{Step, SendDuring, Take, Wait, WaitFor}
-use Rattle.uv_asking.specs.declared.asking.Which.{Which}
-use Rattle.uv_asking.specs.declared.asking.Question.{Question}
-use Rattle.uv_asking.specs.declared.asking.Recorded.{Recorded}
-use Rattle.uv_find.specs.declared.kept.Along.{Along}
-use Rattle.uv_find.specs.declared.kept.Kept.{Kept}
-use Rattle.uv_find.specs.declared.left.Left.{Left}
+use Rattle.uv_asking.specs.declared.asking.Offer.TheVariants.{Take}
 use Rattle.uv_find.specs.declared.left.Left.TheVariants as left
-use Rattle.uv_asking.specs.declared.asking.Most.{Most}
-use Rattle.uv_find.specs.Holding.{can_meet, asks_late, is_at_will, may_take_io}
-use Rattle.uv_find.specs.Kept.{kept_after, kept_due, owed_after, along_after, owes, time_at_end}
-use Rattle.uv_find.specs.Orders.{Rules, Place, is_made, is_free, is_within, take_by, event_of, step_of, wait_until, deadline_at, lessened, lessened_by, may_last, wait_for, is_blocked}
 use Rattle.uv_find.proofs.Keys.{runner_same}
-use Rattle.uv_find.specs.Ranks.{keys_run, idle_worker, finish_by, ranked}
-use Rattle.uv_find.specs.Questions.{is_call, line_answers, place_answers, is_uncalled}
 
 -- ---- what comes from outside
 

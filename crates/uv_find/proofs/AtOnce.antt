@@ -1,40 +1,14 @@
 -- Where a worker takes a request at once: another move and the take, made in either order, meet.
-use Rattle.std.proofs.Common.{◌≡◌, ℕ, zero, suc, ◌+◌, ◌-◌, ◌<◌, ◌≤◌, ◌==◌, ◌&&◌, ◌||◌, not, Bool, true, false, List, [], ◌∷◌, ◌++◌, length, length-append, nat_le, nat_lt, is_none, is_some, take, drop, slice_get, slice_set, inl, inr, refl, sym, ap, ap₂, subst, ◌∙◌, Option, Some, None, if◌then◌else◌, arith, ◌⊎◌}
-use Rattle.std.proofs.lemmas.Bool.{and_parts, eqb-true, ltb-true}
-use Rattle.std.proofs.lemmas.Bool.Decides.{nat_tests}
-use Rattle.std.proofs.lemmas.Option.{same_Some, none-some}
-use Rattle.uv_ids.specs.declared.event.Event.{Event}
+use Rattle.uv_find.proofs.Names.{◌≡◌, ℕ, zero, suc, ◌+◌, ◌-◌, ◌<◌, ◌≤◌, ◌==◌, ◌&&◌, ◌||◌, not, Bool, true, false, List, [], ◌∷◌, ◌++◌, length, length-append, nat_le, nat_lt, is_none, is_some, take, drop, slice_get, slice_set, inl, inr, refl, sym, ap, ap₂, subst, ◌∙◌, Option, Some, None, if◌then◌else◌, arith, ◌⊎◌, and_parts, eqb-true, ltb-true, nat_tests, same_Some, none-some, Event, Loop, Take, Finish, Send, Tick, Id, Var, Named, Seen, Program, worker_count, State, Next, Moves, Refuses, cancels, LeavesPlace, Crosses, takes_apart, take_next, take_refuses, next_takes, next_finishes, take_leaves, Meet, IsApart, Offer, Offered, Question, Kept, Left, is_at_will, are_all_at_will, are_at_will, is_clear_of_takes, loop_number, kept_after, owes, Rules, Place, Led, led, closes, is_blocked, is_made, is_quiet, is_seen, refused_as_blocked, deadline_at, wait_until, take_by, event_of, offered_by, timed, brief, is_brief, at_will, may_take, taken, is_within, less, lessened, move_count, move_count_by, may_last, ends_within, is_in_poll, idle_worker, rank_of, runner, finish_by, ranked, answers, line_answers, place_answers, none_leads, is_uncalled, has_ended, Spot, AreOfPool, CanForget, CanTakeAtOnce, next_spot, spot_of, spot_code, apart, is_loop_first, is_take_first, is_few, IsSpot, HasRoom}
 use Rattle.uv_ids.specs.declared.event.Event.TheVariants as event
-use Rattle.uv_ids.specs.declared.event.Event.TheVariants.{Loop, Take, Finish, Send, Tick}
-use Rattle.uv_ids.specs.declared.id.Id.{Id}
-use Rattle.uv_ids.specs.declared.id.Var.{Var}
-use Rattle.uv_records.specs.declared.named.Named.{Named}
 use Rattle.uv_records.specs.Names as bound
-use Rattle.uv_ids.specs.declared.seen.Seen.{Seen}
 use Rattle.uv_ids.specs.declared.seen.Seen.TheVariants as seen
-use Rattle.uv_script.specs.Program.{Program, worker_count}
-use Rattle.uv_model.specs.State.{State}
-use Rattle.uv_model.specs.Next.{Next, Moves, Refuses, next}
-use Rattle.uv_alike.specs.Asks.{cancels}
-use Rattle.uv_apart.specs.Apart.{LeavesPlace, Crosses}
-use Rattle.uv_apart.proofs.Pool.{Takes, takes_apart, take_next, take_refuses, next_takes, next_finishes}
+use Rattle.uv_model.specs.Next.{next}
+use Rattle.uv_apart.proofs.Pool.{Takes}
 use Rattle.uv_apart.proofs.Beside.{takes_tick, takes_finish, takes_io, takes_send}
-use Rattle.uv_apart.proofs.Taken.{take_leaves}
-use Rattle.uv_search.specs.Ways.{Meet, IsApart}
-use Rattle.uv_asking.specs.declared.asking.Offer.{Offer}
 use Rattle.uv_asking.specs.declared.asking.Offer.TheVariants as offers
-use Rattle.uv_asking.specs.declared.asking.Offered.{Offered}
-use Rattle.uv_asking.specs.declared.asking.Question.{Question}
 use Rattle.uv_asking.specs.declared.asking.Question.TheVariants as asks
-use Rattle.uv_find.specs.declared.kept.Kept.{Kept}
-use Rattle.uv_find.specs.declared.left.Left.{Left}
 use Rattle.uv_find.specs.declared.left.Left.TheVariants as left
-use Rattle.uv_find.specs.Holding.{is_at_will, are_all_at_will, are_at_will, is_clear_of_takes, loop_number}
-use Rattle.uv_find.specs.Kept.{kept_after, owes}
-use Rattle.uv_find.specs.Orders.{Rules, Place, Led, led, closes, is_blocked, is_made, is_quiet, is_seen, refused_as_blocked, deadline_at, wait_until, take_by, event_of, offered_by, timed, brief, is_brief, at_will, may_take, taken, is_within, less, lessened, move_count, move_count_by, may_last, ends_within, is_in_poll}
-use Rattle.uv_find.specs.Ranks.{idle_worker, rank_of, runner, finish_by, ranked}
-use Rattle.uv_find.specs.Questions.{answers, line_answers, place_answers, none_leads, is_uncalled, has_ended}
-use Rattle.uv_find.specs.Spots.{Spot, AreOfPool, CanForget, CanTakeAtOnce, next_spot, spot_of, spot_code, apart, is_loop_first, is_take_first, is_few, IsSpot, HasRoom}
 use Rattle.uv_find.proofs.Led.{event_at, led_leads, leads_spot, state_behind, brief_more, length_more}
 use Rattle.uv_find.proofs.Alike.{AreAlike, DueAlike}
 use Rattle.uv_find.proofs.Covering.{led_take, takes_cover}

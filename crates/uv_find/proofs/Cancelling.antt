@@ -1,19 +1,7 @@
 -- Where no line of a script cancels a request, no step of its loop does.
-use Rattle.std.proofs.Common.{◌≡◌, ℕ, true, false, List, Option, Some, None, refl, slice_get}
-use Rattle.std.specs.List.{list_all}
-use Rattle.std.proofs.lemmas.Bool.{and_parts}
-use Rattle.uv_script.specs.declared.op.Op.{Op}
-use Rattle.uv_script.specs.declared.op.MainOp.{MainOp}
+use Rattle.uv_find.proofs.Names.{◌≡◌, ℕ, true, false, List, Option, Some, None, refl, slice_get, list_all, and_parts, Op, MainOp, CallbackLine, Program, lines_in, Body, Main, Running, State, cancels, cancels_at, cancels_line, cancels_main, cancels_op, cancels_run, is_no_cancel, of_main, of_lines, each_op}
 use Rattle.uv_script.specs.declared.op.MainOp.TheVariants as main
-use Rattle.uv_script.specs.declared.op.CallbackLine.{CallbackLine}
-use Rattle.uv_script.specs.Program.{Program, lines_in}
-use Rattle.uv_model.specs.declared.place.Body.{Body}
 use Rattle.uv_model.specs.declared.place.Place.{Place}
-use Rattle.uv_model.specs.declared.place.Place.TheVariants.{Main, Running}
-use Rattle.uv_model.specs.State.{State}
-use Rattle.uv_alike.specs.Asks.{cancels, cancels_at, cancels_line, cancels_main, cancels_op, cancels_run}
-use Rattle.uv_find.specs.Holding.{is_no_cancel}
-use Rattle.uv_find.specs.Ops.{of_main, of_lines, each_op}
 use Rattle.uv_find.proofs.Declaring.{lines_test}
 use Rattle.uv_find.proofs.Led.{each}
 use Rattle.uv_find.proofs.Meeting.{not_true}

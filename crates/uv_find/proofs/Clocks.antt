@@ -1,31 +1,12 @@
 -- How far the clock goes: by what a tick says, and by nothing else.
-use Rattle.std.proofs.Common.{◌≡◌, ℕ, ◌+◌, ◌*◌, ◌<◌, ◌≤◌, true, List, [], ◌∷◌, length, Option, Some, None, Result, refl, ap, subst, arith}
-use Rattle.uv_ids.specs.declared.event.Event.{Event}
-use Rattle.uv_ids.specs.declared.event.Event.TheVariants.{Io, Tick}
-use Rattle.uv_ids.specs.declared.seen.Seen.{Seen}
+use Rattle.uv_find.proofs.Names.{◌≡◌, ℕ, ◌+◌, ◌*◌, ◌<◌, ◌≤◌, true, List, [], ◌∷◌, length, Option, Some, None, Result, refl, ap, subst, arith, Event, Io, Tick, Seen, Id, Var, Why, Order, Callback, Op, Request, Program, order_of, State, fresh, goes_on, state_of, Next, Moves, Refuses, LONG, is_brief, AreBrief, Holds, HoldsNext, holds_fresh, holds_next, Mode, OfLoop, loop_lines, Line, Names, Position, Between, Section, Standing, Lasting, Goes, IsCallLine, names_by, lasting, nothing_told, told_by, after_op}
 use Rattle.uv_ids.specs.declared.seen.Seen.TheVariants as seen
-use Rattle.uv_ids.specs.declared.id.Id.{Id}
-use Rattle.uv_ids.specs.declared.id.Var.{Var}
-use Rattle.uv_ids.specs.declared.fault.Why.{Why}
-use Rattle.uv_ids.specs.declared.order.Order.{Order}
-use Rattle.uv_ids.specs.declared.phase.Mode.{Mode}
-use Rattle.uv_ids.specs.declared.seen.Callback.{Callback}
-use Rattle.uv_script.specs.declared.op.Op.{Op}
-use Rattle.uv_work.specs.declared.request.Request.{Request}
-use Rattle.uv_script.specs.Program.{Program, order_of}
-use Rattle.uv_model.specs.State.{State, fresh}
-use Rattle.uv_model.specs.After.{after, goes_on, state_of}
+use Rattle.uv_model.specs.After.{after}
 use Rattle.uv_model.specs.Next as step
-use Rattle.uv_model.specs.Next.{Next, Moves, Refuses, next}
-use Rattle.uv_model.proofs.Refusals.{OfLoop, loop_lines}
-use Rattle.uv_order.specs.Line.{Line}
-use Rattle.uv_order.specs.Documented.{Told, Names, Position, Between, Section, Standing, Lasting, Goes, IsCallLine, names_by}
-use Rattle.uv_order.specs.Documented.{lasting, nothing_told, told_by, after_op, after_run, after_section, after_io, after_end}
+use Rattle.uv_model.specs.Next.{next}
+use Rattle.uv_order.specs.Documented.{Told}
+use Rattle.uv_order.specs.Documented.{after_run, after_section, after_io, after_end}
 use Rattle.uv_order.specs.Documented.Goes.{main_line, run, section, poll, ends, call, fires, answers, answer_op, body_op, sent, taken, finished, cancelled, outside}
-use Rattle.uv_find.specs.Forgetting.{LONG}
-use Rattle.uv_find.specs.Orders.{is_brief}
-use Rattle.uv_find.specs.Spots.{AreBrief}
-use Rattle.uv_order.proofs.Documents.{Holds, HoldsNext, holds_fresh, holds_next}
 
 -- the ms that the clock goes on by, as a line says
 abbrev pub ms_of : Seen → ℕ

@@ -1,25 +1,7 @@
 -- A finish is covered where workers run two requests that are alike: by that of the first one.
-use Rattle.std.proofs.Common.{◌≡◌, ℕ, zero, suc, ◌+◌, ◌-◌, ◌<◌, ◌≤◌, ◌&&◌, Bool, true, false, List, [], ◌∷◌, length, length-append, slice_get, nat_lt, if◌then◌else◌, refl, ap, ap₂, sym, subst, ◌∙◌, Option, Some, None, arith}
-use Rattle.std.proofs.lemmas.Bool.{and_parts, ltb-true}
-use Rattle.std.proofs.lemmas.Option.{none-some, same_Some}
-use Rattle.uv_ids.specs.declared.event.Event.TheVariants.{Finish}
-use Rattle.uv_ids.specs.declared.id.Id.{Id}
-use Rattle.uv_script.specs.Program.{worker_count}
-use Rattle.uv_records.specs.declared.named.Calls.{Calls}
-use Rattle.uv_work.specs.declared.request.Request.{Request}
-use Rattle.uv_model.specs.Queries.{run_by}
-use Rattle.uv_model.specs.State.{State, named, request}
-use Rattle.uv_order.specs.Reached.{IsReached}
+use Rattle.uv_find.proofs.Names.{◌≡◌, ℕ, zero, suc, ◌+◌, ◌-◌, ◌<◌, ◌≤◌, ◌&&◌, Bool, true, false, List, [], ◌∷◌, length, length-append, slice_get, nat_lt, if◌then◌else◌, refl, ap, ap₂, sym, subst, ◌∙◌, Option, Some, None, arith, and_parts, ltb-true, none-some, same_Some, Finish, Id, worker_count, Request, run_by, State, named, request, IsReached, Ends, IsCovered, as_id, name_at, are_at_will, has_mate, main_spares, same_calls, are_run_alike, request_of, is_covered_by, Rules, Place, Led, led, move_count, offered_by, answers, rank_in, rank_of, runner, Spot, CanForget, AreOfPool, AreMates, IsSpot, HasRoom, covered, is_few, next_spot, spot_of, Calls}
 use Rattle.uv_order.proofs.Reaching.{reached}
-use Rattle.uv_search.specs.Ways.{Ends, IsCovered}
-use Rattle.uv_tale.specs.Tale.{as_id, name_at}
-use Rattle.uv_find.specs.Holding.{are_at_will}
 use Rattle.uv_find.specs.Mates as mates
-use Rattle.uv_find.specs.Mates.{has_mate, main_spares, same_calls, are_run_alike, request_of, is_covered_by}
-use Rattle.uv_find.specs.Orders.{Rules, Place, Led, led, move_count, offered_by}
-use Rattle.uv_find.specs.Questions.{answers}
-use Rattle.uv_find.specs.Ranks.{rank_in, rank_of, runner}
-use Rattle.uv_find.specs.Spots.{Spot, CanForget, AreOfPool, AreMates, IsSpot, HasRoom, covered, is_few, next_spot, spot_of}
 use Rattle.uv_find.proofs.Alike.{AreAlike, IsGoing, spot_going, spot_regular}
 use Rattle.uv_find.proofs.AtOnce.{due_same, spot_is_in}
 use Rattle.uv_find.proofs.Covering.{LedAlike, led_alike, place_alike}

@@ -1,25 +1,10 @@
 -- What a place does, one that has the same key does as well: it leads by each move to one of the same key, and answers alike.
-use Rattle.std.proofs.Common.{◌≡◌, inl, inr, ℕ, zero, suc, ◌+◌, ◌-◌, ◌&&◌, Bool, true, false, List, [], ◌∷◌, ◌++◌, length, nat_lt, is_none, slice_get, refl, sym, ap, ap₂, subst, ◌∙◌, Option, Some, None, if◌then◌else◌, arith}
-use Rattle.std.proofs.lemmas.Option.{none-some}
-use Rattle.uv_ids.specs.declared.event.Event.{Event}
-use Rattle.uv_ids.specs.declared.event.Event.TheVariants.{Take}
-use Rattle.uv_ids.specs.declared.seen.Seen.{Seen}
-use Rattle.uv_model.specs.State.{State}
-use Rattle.uv_model.specs.Next.{Next, Moves, Refuses, next}
-use Rattle.uv_search.specs.Ways.{CoversMoves, CoversStep}
+use Rattle.uv_find.proofs.Names.{◌≡◌, inl, inr, ℕ, zero, suc, ◌+◌, ◌-◌, ◌&&◌, Bool, true, false, List, [], ◌∷◌, ◌++◌, length, nat_lt, is_none, slice_get, refl, sym, ap, ap₂, subst, ◌∙◌, Option, Some, None, if◌then◌else◌, arith, none-some, Event, Take, Seen, State, Next, Moves, Refuses, CoversMoves, CoversStep, calls_timer, IsRegular, LeadsRegular, tale, Offered, Question, Left, is_common, along_after, Rules, Place, Choice, Led, led, led_by, placed, chosen, lessened, offered_by, is_brief, move_count, move_count_by, taken, reached, is_within, answers, place_answers, none_leads, has_ended, Spot, spot_of, next_spot, told_due, told, left_code, kept_code, place_code, spot_code, CanForget, IsSpot, IsStanding, is_few, key_code}
+use Rattle.uv_model.specs.Next.{next}
 use Rattle.uv_state_key.specs.Formed.{formed}
-use Rattle.uv_state_key.specs.TaleKey.{key_code, tale_code}
-use Rattle.uv_tale.specs.Alike.{calls_timer, IsRegular, LeadsRegular}
-use Rattle.uv_tale.specs.Tale.{tale}
-use Rattle.uv_asking.specs.declared.asking.Offered.{Offered}
-use Rattle.uv_asking.specs.declared.asking.Question.{Question}
+use Rattle.uv_state_key.specs.TaleKey.{tale_code}
 use Rattle.uv_asking.specs.declared.asking.Question.TheVariants as asks
-use Rattle.uv_find.specs.declared.left.Left.{Left}
-use Rattle.uv_find.specs.Forgetting.{is_common}
-use Rattle.uv_find.specs.Kept.{along_after}
-use Rattle.uv_find.specs.Orders.{Rules, Place, Choice, Led, led, led_by, placed, chosen, lessened, offered_by, is_brief, move_count, move_count_by, taken, reached, is_within}
-use Rattle.uv_find.specs.Questions.{answers, place_answers, none_leads, has_ended}
-use Rattle.uv_find.specs.Spots.{Spot, spot_of, next_spot, told_due, told, Told, left_code, kept_code, place_code, spot_code, CanForget, IsSpot, IsStanding, is_few}
+use Rattle.uv_find.specs.Spots.{Told}
 use Rattle.uv_find.proofs.Alike.{GoesAlike, NextGoes, IsGoing, spot_going, AreAlike, DueAlike, kept_due_alike, within_alike, goes_alike, blocked_alike, offered_alike, both}
 use Rattle.uv_find.proofs.Led.{each, event_at, choice_is, led_leads, leads_spot, offered_brief}
 use Rattle.uv_find.proofs.Onward.{owed_alike, along_alike, uncalled_alike, line_alike}

@@ -1,22 +1,8 @@
 -- What holds of each op of a script holds of the op at each place; and so each op names a declared name.
-use Rattle.std.proofs.Common.{◌≡◌, ℕ, suc, ◌<◌, ◌&&◌, Bool, true, List, [], ◌∷◌, length, Option, Some, None, option_map, slice_get, refl, ap, ap₂, sym, subst, ◌∙◌}
-use Rattle.std.specs.Prelude.{unwrap_or}
-use Rattle.std.specs.List.{list_all}
-use Rattle.std.proofs.lemmas.Bool.{and_parts, ltb-true, lt-ltb}
-use Rattle.std.proofs.lemmas.Option.{same_Some, none-some}
-use Rattle.uv_ids.specs.declared.id.Var.{Var}
-use Rattle.uv_ids.specs.declared.seen.Callback.{Callback}
+use Rattle.uv_find.proofs.Names.{◌≡◌, ℕ, suc, ◌<◌, ◌&&◌, Bool, true, List, [], ◌∷◌, length, Option, Some, None, option_map, slice_get, refl, ap, ap₂, sym, subst, ◌∙◌, unwrap_or, list_all, and_parts, ltb-true, lt-ltb, same_Some, none-some, Var, Callback, Site, Op, MainOp, CallbackLine, Program, Callbacks, no_callbacks, callbacks_of, lines_of, lines_in, main_op, op_at, op_name, IsWhole, AreDeclared, is_declared, declares, of_main, of_lines, of_callbacks, each_op}
 use Rattle.uv_ids.specs.declared.seen.Callback.TheVariants as callback
-use Rattle.uv_ids.specs.declared.seen.Site.{Site}
 use Rattle.uv_ids.specs.declared.seen.Site.TheVariants as site
-use Rattle.uv_script.specs.declared.op.Op.{Op}
-use Rattle.uv_script.specs.declared.op.MainOp.{MainOp}
 use Rattle.uv_script.specs.declared.op.MainOp.TheVariants as main
-use Rattle.uv_script.specs.declared.op.CallbackLine.{CallbackLine}
-use Rattle.uv_script.specs.Program.{Program, Callbacks, no_callbacks, callbacks_of, lines_of, lines_in, main_op, op_at, op_name, IsWhole}
-use Rattle.uv_slots.specs.NamedForm.{AreDeclared}
-use Rattle.uv_find.specs.Forgetting.{is_declared, declares}
-use Rattle.uv_find.specs.Ops.{of_main, of_lines, of_callbacks, each_op}
 use Rattle.uv_find.proofs.Led.{each}
 
 module _ (test : Op → Bool) where

@@ -1,28 +1,10 @@
 -- Lines that are told to be the same, except for two names that are exchanged, are.
-use Rattle.std.proofs.Common.{◌≡◌, ℕ, zero, suc, ◌+◌, ◌<◌, ◌≤◌, ◌==◌, ◌&&◌, inl, inr, Bool, true, false, List, [], ◌∷◌, length, drop, nat_eq, nat_lt, get_or, refl, ap, ap₂, sym, subst, ◌∙◌, Option, Some, None, arith}
-use Rattle.std.specs.Prelude.{map, option_map, slice_index_or, unwrap_or}
-use Rattle.std.specs.Cmp.Lexicographic.{pointwise, same_text}
-use Rattle.std.proofs.lemmas.Bool.{and_parts, cases_order, eqb-true, ltb-true}
-use Rattle.std.proofs.lemmas.Bool.Decides.{nat_tests}
-use Rattle.std.proofs.lemmas.List.{drop_all}
-use Rattle.std.proofs.lemmas.Option.{slice_get_past}
-use Rattle.std.proofs.Math.Seq.{drop-cons}
-use Rattle.uv_ids.specs.declared.id.Var.{Var}
+use Rattle.uv_find.proofs.Names.{◌≡◌, ℕ, zero, suc, ◌+◌, ◌<◌, ◌≤◌, ◌==◌, ◌&&◌, inl, inr, Bool, true, false, List, [], ◌∷◌, length, drop, nat_eq, nat_lt, get_or, refl, ap, ap₂, sym, subst, ◌∙◌, Option, Some, None, arith, map, option_map, slice_index_or, unwrap_or, and_parts, cases_order, eqb-true, ltb-true, nat_tests, drop_all, slice_get_past, drop-cons, Var, Callback, Op, CallbackLine, Program, Callbacks, callbacks_of, lines_in, lines_of, no_callbacks, op_name, Change, changed_op, changed_callback, moved_var, by_names, place_of, op_code, op_times, op_task, other_name, same_task, same_tasks, turned_name, same_call, turned_op, turned_line, turned_lines, turned_callbacks, all_turned, pointwise, text_of, Task, option_same}
+use Rattle.std.specs.Cmp.Lexicographic.{same_text}
 use Rattle.uv_ids.specs.declared.phase.Kind.TheVariants as kind
-use Rattle.uv_ids.specs.declared.seen.Callback.{Callback}
 use Rattle.uv_ids.specs.declared.seen.Callback.TheVariants as callback
-use Rattle.uv_script.specs.declared.op.Op.{Op}
 use Rattle.uv_script.specs.declared.op.Op.TheVariants as op
-use Rattle.uv_script.specs.declared.op.CallbackLine.{CallbackLine}
-use Rattle.uv_script.specs.Program.{Program, Callbacks, callbacks_of, lines_in, lines_of, no_callbacks, op_name}
-use Rattle.uv_work.specs.Tasks.{text_of}
-use Rattle.uv_work.specs.declared.task.Task.{Task}
 use Rattle.uv_work.proofs.TaskLemmas as tasks
-use Rattle.uv_alike.specs.Changed.{Change, changed_op, changed_callback}
-use Rattle.uv_alike.proofs.Same.{option_same}
-use Rattle.uv_slots.specs.Alike.{moved_var, by_names}
-use Rattle.uv_slots.specs.Arranged.{place_of}
-use Rattle.uv_find.specs.Same.{op_code, op_times, op_task, other_name, same_task, same_tasks, turned_name, same_call, turned_op, turned_line, turned_lines, turned_callbacks, all_turned}
 use Rattle.uv_find.proofs.Swap.{swap, is_equal, differs, first_goes, second_goes, other_stays}
 
 -- ---- an op is what is told of it

@@ -1,33 +1,10 @@
 -- Each worker that runs a request may finish it.
-use Rattle.std.proofs.Common.{◌≡◌, ℕ, zero, suc, ◌<◌, true, List, [], ◌∷◌, ◌++◌, length, nat_lt, slice_get, option_and_then, refl, sym, ap, subst, ◌∙◌, Option, Some, None, if◌then◌else◌, true≢false, arith}
-use Rattle.std.specs.Prelude.{option_map}
-use Rattle.std.proofs.lemmas.Option.{same_Some, slice_get-map}
-use Rattle.uv_ids.specs.declared.event.Event.{Event}
+use Rattle.uv_find.proofs.Names.{◌≡◌, ℕ, zero, suc, ◌<◌, true, List, [], ◌∷◌, ◌++◌, length, nat_lt, slice_get, option_and_then, refl, sym, ap, subst, ◌∙◌, Option, Some, None, if◌then◌else◌, true≢false, arith, option_map, same_Some, slice_get-map, Event, Id, Request, Program, worker_count, Moves, run_by, State, request, after-nil, after-moves, has_id, run_ids, AreDistinct, AreOpened, IsInSlot, has_at, one_in_slot, Asked, Step, Offered, Left, Kept, may_take_at_once, Course, IsOffered, LeadsOn, EachFinishes, Rules, Place, Choice, Led, at_will, finishes, times_left, lessened, lessened_by, chosen, offered_by, beginning, first_left, timed, brief, move_count, move_count_by, key_at, keys_run, rank_of, runner, finish_by, ranked, rules_of}
 use Rattle.uv_ids.specs.declared.event.Event.TheVariants as event
-use Rattle.uv_ids.specs.declared.id.Id.{Id}
-use Rattle.uv_work.specs.declared.request.Request.{Request}
-use Rattle.uv_script.specs.Program.{Program, worker_count}
 use Rattle.uv_model.specs.After.{after}
-use Rattle.uv_model.specs.Next.{Moves, next}
-use Rattle.uv_model.specs.Queries.{run_by}
-use Rattle.uv_model.specs.State.{State, request}
-use Rattle.uv_model.proofs.Runs.{after-nil, after-moves}
-use Rattle.uv_order.specs.Active.{has_id, run_ids, AreDistinct, AreOpened}
+use Rattle.uv_model.specs.Next.{next}
 use Rattle.uv_order.proofs.Reaching.{reached}
-use Rattle.uv_generations.specs.Youngest.{IsInSlot}
-use Rattle.uv_tale.proofs.Given.{has_at, one_in_slot}
-use Rattle.uv_asking.specs.Asked.{Asked}
-use Rattle.uv_asking.specs.declared.asking.Offer.TheVariants.{Step}
-use Rattle.uv_asking.specs.declared.asking.Offered.{Offered}
-use Rattle.uv_find.specs.declared.left.Left.{Left}
 use Rattle.uv_find.specs.declared.left.Left.TheVariants as left
-use Rattle.uv_find.specs.declared.kept.Kept.{Kept}
-use Rattle.uv_find.specs.Holding.{may_take_at_once}
-use Rattle.uv_find.specs.Courses.{Course, IsOffered, LeadsOn}
-use Rattle.uv_find.specs.Found.{EachFinishes}
-use Rattle.uv_find.specs.Orders.{Rules, Place, Choice, Led, at_will, finishes, times_left, lessened, lessened_by, chosen, offered_by, beginning, first_left, timed, brief, move_count, move_count_by}
-use Rattle.uv_find.specs.Ranks.{key_at, keys_run, rank_of, runner, finish_by, ranked}
-use Rattle.uv_find.specs.Spots.{rules_of}
 use Rattle.uv_find.proofs.Led.{choice_is, event_at}
 use Rattle.uv_find.proofs.Meeting.{get_within}
 use Rattle.uv_find.proofs.Offers.{behind_first, finish_in}

@@ -1,24 +1,6 @@
 -- What holds where a search forgets.
-use Rattle.std.proofs.Common.{◌≡◌, ℕ, zero, suc, ◌≤◌, Bool, true, false, List, [], ◌∷◌, ◌++◌, Option, Some, None, is_none, if◌then◌else◌, refl, arith}
-use Rattle.std.specs.Prelude.{max}
-use Rattle.std.specs.List.{list_all}
-use Rattle.std.proofs.lemmas.Bool.{and_parts, ltb-true}
-use Rattle.std.proofs.lemmas.Option.{same_Some, none-some}
+use Rattle.uv_find.proofs.Names.{◌≡◌, ℕ, zero, suc, ◌≤◌, Bool, true, false, List, [], ◌∷◌, ◌++◌, Option, Some, None, is_none, if◌then◌else◌, refl, arith, max, list_all, and_parts, ltb-true, same_Some, none-some, Op, Program, arena_size, worker_count, script_end, script_before, IsShortOp, IsShort, Asked, Offered, Offer, Step, LONG, is_small_op, may_forget, most_end, takes_end, question_end, is_aside, are_aside, is_common, are_common, calls_end, LONGEST, may_take_at_once, each_op, at_will, finishes, every_offer, CanForget, MayForget, rules_of}
 use Rattle.uv_ids.specs.declared.event.Event.TheVariants as event
-use Rattle.uv_script.specs.declared.op.Op.{Op}
-use Rattle.uv_script.specs.Program.{Program, arena_size, worker_count}
-use Rattle.uv_names.specs.Counts.{script_end}
-use Rattle.uv_names.proofs.Counted.{script_before}
-use Rattle.uv_shift.specs.Shift.{IsShortOp, IsShort}
-use Rattle.uv_asking.specs.Asked.{Asked}
-use Rattle.uv_asking.specs.declared.asking.Offered.{Offered}
-use Rattle.uv_asking.specs.declared.asking.Offer.{Offer}
-use Rattle.uv_asking.specs.declared.asking.Offer.TheVariants.{Step}
-use Rattle.uv_find.specs.Forgetting.{LONG, is_small_op, may_forget, most_end, takes_end, question_end, is_aside, are_aside, is_common, are_common, calls_end, LONGEST}
-use Rattle.uv_find.specs.Holding.{may_take_at_once}
-use Rattle.uv_find.specs.Ops.{each_op}
-use Rattle.uv_find.specs.Orders.{at_will, finishes, every_offer}
-use Rattle.uv_find.specs.Spots.{CanForget, MayForget, rules_of}
 use Rattle.uv_find.proofs.Declaring.{each_at, are_declared}
 
 -- ---- small numbers

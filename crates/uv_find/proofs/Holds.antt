@@ -1,18 +1,6 @@
 -- What holds where moves are held back.
-use Rattle.std.proofs.Common.{◌≡◌, ℕ, zero, suc, ◌+◌, ◌-◌, ◌<◌, ◌≤◌, Bool, true, false, ◌&&◌, not, List, [], ◌∷◌, ◌++◌, length, length-append, Some, None, slice_get, if◌then◌else◌, ◌⊎◌, inl, inr, refl, sym, ap, subst, ◌∙◌, append_assoc, arith}
-use Rattle.std.specs.Prelude.{unwrap_or}
-use Rattle.std.specs.List.{list_any}
-use Rattle.std.proofs.lemmas.Bool.{and_parts}
-use Rattle.std.proofs.lemmas.Option.{same_Some, none-some}
+use Rattle.uv_find.proofs.Names.{◌≡◌, ℕ, zero, suc, ◌+◌, ◌-◌, ◌<◌, ◌≤◌, Bool, true, false, ◌&&◌, not, List, [], ◌∷◌, ◌++◌, length, length-append, Some, None, slice_get, if◌then◌else◌, ◌⊎◌, inl, inr, refl, sym, ap, subst, ◌∙◌, append_assoc, arith, unwrap_or, list_any, and_parts, same_Some, none-some, Program, worker_count, Asked, Step, Offered, can_meet, can_all_meet, asks_late, is_empty, may_hold, hold_of, is_clear_of_takes, are_clear_of_takes, is_of_pool, may_take_at_once, loop_number, at_will, finishes, first_offer, first_offers, offer_spares, offers_spare, is_mate, mates_of, mates_in, has_mate, AreMates, AreOfPool, CanHold, CanTakeAtOnce, MayHold, rules_of}
 use Rattle.uv_ids.specs.declared.event.Event.TheVariants as event
-use Rattle.uv_script.specs.Program.{Program, worker_count}
-use Rattle.uv_asking.specs.Asked.{Asked}
-use Rattle.uv_asking.specs.declared.asking.Offer.TheVariants.{Step}
-use Rattle.uv_asking.specs.declared.asking.Offered.{Offered}
-use Rattle.uv_find.specs.Holding.{can_meet, can_all_meet, asks_late, is_empty, may_hold, hold_of, is_clear_of_takes, are_clear_of_takes, is_of_pool, may_take_at_once, loop_number}
-use Rattle.uv_find.specs.Orders.{at_will, finishes, first_offer, first_offers}
-use Rattle.uv_find.specs.Mates.{offer_spares, offers_spare, is_mate, mates_of, mates_in, has_mate}
-use Rattle.uv_find.specs.Spots.{AreMates, AreOfPool, CanHold, CanTakeAtOnce, MayHold, rules_of}
 use Rattle.uv_find.proofs.Forgets.{all_front}
 use Rattle.uv_find.proofs.Led.{each}
 use Rattle.uv_find.proofs.Meeting.{not_true}

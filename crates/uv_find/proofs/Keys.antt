@@ -1,30 +1,10 @@
 -- By which keys requests are run: the loop's step leaves them where it is apart, and a rank goes by them alone.
-use Rattle.std.proofs.Common.{◌≡◌, ℕ, suc, ◌+◌, ◌++◌, ◌==◌, List, [], ◌∷◌, Bool, true, false, cond, slice_get, refl, ap, ap₂, sym, subst, ◌∙◌, Option, Some, None}
-use Rattle.std.specs.Prelude.{map, option_map}
-use Rattle.std.specs.List.{position_from}
-use Rattle.std.proofs.lemmas.Option.{same_Some}
-use Rattle.uv_ids.specs.declared.event.Event.{Event}
-use Rattle.uv_ids.specs.declared.event.Event.TheVariants.{Loop}
-use Rattle.uv_ids.specs.declared.id.Id.{Id}
-use Rattle.uv_ids.specs.declared.seen.Seen.{Seen}
+use Rattle.uv_find.proofs.Names.{◌≡◌, ℕ, suc, ◌+◌, ◌++◌, ◌==◌, List, [], ◌∷◌, Bool, true, false, cond, slice_get, refl, ap, ap₂, sym, subst, ◌∙◌, Option, Some, None, map, option_map, position_from, same_Some, Event, Loop, Id, Seen, held, Program, Content, Request, request_in, Moves, State, run_ids, AreOpened, has_at, is_apart, loop_keeps, finish_next, next_finishes, finishes_apart, number_of, key_at, keys_run, rank_in, is_of_rank, runner}
 use Rattle.uv_ids.specs.declared.seen.Seen.TheVariants as seen
-use Rattle.uv_records.specs.Slots.{held}
-use Rattle.uv_script.specs.Program.{Program}
-use Rattle.uv_work.specs.declared.content.Content.{Content}
 use Rattle.uv_work.specs.declared.content.Content.TheVariants as content
-use Rattle.uv_work.specs.declared.request.Request.{Request}
 use Rattle.uv_model.specs.After.{after}
-use Rattle.uv_model.specs.Content.{request_in}
-use Rattle.uv_model.specs.Next.{Moves, next}
-use Rattle.uv_model.specs.State.{State}
-use Rattle.uv_order.specs.Active.{run_ids, AreOpened}
+use Rattle.uv_model.specs.Next.{next}
 use Rattle.uv_order.proofs.Reaching.{reached}
-use Rattle.uv_tale.proofs.Given.{has_at}
-use Rattle.uv_apart.specs.Apart.{is_apart}
-use Rattle.uv_apart.proofs.Kept.{loop_keeps}
-use Rattle.uv_apart.proofs.Pool.{finish_next, next_finishes, finishes_apart}
-use Rattle.uv_tale.specs.Tale.{number_of}
-use Rattle.uv_find.specs.Ranks.{key_at, keys_run, rank_in, is_of_rank, runner}
 use Rattle.uv_find.proofs.Ranking.{Run}
 
 -- ---- behind a step of the loop that is apart

@@ -1,9 +1,5 @@
 -- What may be asked of one timer may be asked of another one, and of another number of ms.
-use Rattle.std.proofs.Common.{◌≡◌, ℕ, true, arith}
-use Rattle.uv_ids.specs.declared.id.Var.{Var}
-use Rattle.uv_find.specs.Holding.{asks_late}
-use Rattle.uv_find.specs.Orders.{Rules, asked_late}
-use Rattle.uv_find.specs.Spots.{MayForget, MayHold}
+use Rattle.uv_find.proofs.Names.{◌≡◌, ℕ, true, arith, Var, asks_late, Rules, asked_late, MayForget, MayHold}
 
 pub later_forgets : (r : Rules) (name : Var) (ms : ℕ) → MayForget r → MayForget (asked_late r name ms)
 later_forgets r name ms may n some =

@@ -1,10 +1,6 @@
 -- Offers that lead on.
-use Rattle.std.proofs.Common.{◌≡◌, ℕ, zero, suc, ◌<◌, ◌⊎◌, false, ◌&&◌, Some, Ok, is_none, arith}
-use Rattle.uv_find.specs.Orders.{Rules, Place, Led, led}
-use Rattle.uv_find.specs.Questions.{none_leads}
-use Rattle.uv_find.specs.Spots.{Searched}
+use Rattle.uv_find.proofs.Names.{◌≡◌, ℕ, zero, suc, ◌<◌, ◌⊎◌, false, ◌&&◌, Some, Ok, is_none, arith, Rules, Place, Led, led, none_leads, Searched, Outcome}
 use Rattle.uv_find.specs.Steps.{Takes}
-use Rattle.uv_model.specs.declared.machine.Outcome.{Outcome}
 
 or_last : (k n : ℕ) → k < suc n → (k ≡ n) ⊎ (k < n)
 or_last k n l = grind arith

@@ -1,22 +1,8 @@
 -- Where a move leads: on by an event that is brief, to a spot.
-use Rattle.std.proofs.Common.{◌≡◌, ℕ, zero, suc, ◌+◌, ◌<◌, Bool, true, false, List, [], ◌∷◌, ◌++◌, length, nat_lt, refl, sym, ap, subst, ◌∙◌, Option, Some, None, if◌then◌else◌, slice_get, length-append, arith}
-use Rattle.std.specs.List.{list_all}
-use Rattle.std.proofs.lemmas.Bool.{and_parts}
-use Rattle.std.proofs.lemmas.Option.{same_Some, none-some}
-use Rattle.uv_ids.specs.declared.event.Event.{Event}
-use Rattle.uv_ids.specs.declared.seen.Seen.{Seen}
-use Rattle.uv_model.specs.State.{State}
-use Rattle.uv_model.specs.Next.{Next, Moves, Refuses, next}
+use Rattle.uv_find.proofs.Names.{◌≡◌, ℕ, zero, suc, ◌+◌, ◌<◌, Bool, true, false, List, [], ◌∷◌, ◌++◌, length, nat_lt, refl, sym, ap, subst, ◌∙◌, Option, Some, None, if◌then◌else◌, slice_get, length-append, arith, list_all, and_parts, same_Some, none-some, Event, Seen, State, Next, Moves, Refuses, after-push, Offered, Left, Kept, Rules, Place, Choice, Led, led, led_by, placed, choice_by, chosen, lessened, offered_by, offered_here, is_brief, brief, move_count, taken, reached, is_within, ranked, answers, LeadsOn, Spot, spot_of, next_spot, MayForget, AreBrief, is_few, IsSpot}
+use Rattle.uv_model.specs.Next.{next}
 use Rattle.uv_model.specs.After.{after}
-use Rattle.uv_model.proofs.Runs.{after-push}
-use Rattle.uv_asking.specs.declared.asking.Offered.{Offered}
-use Rattle.uv_find.specs.declared.left.Left.{Left}
-use Rattle.uv_find.specs.declared.kept.Kept.{Kept}
-use Rattle.uv_find.specs.Orders.{Rules, Place, Choice, Led, led, led_by, placed, choice_at, choice_by, chosen, lessened, offered_by, offered_here, is_brief, brief, move_count, taken, reached, is_within}
-use Rattle.uv_find.specs.Ranks.{ranked}
-use Rattle.uv_find.specs.Questions.{answers}
-use Rattle.uv_find.specs.Courses.{LeadsOn}
-use Rattle.uv_find.specs.Spots.{Spot, spot_of, next_spot, MayForget, AreBrief, is_few, IsSpot}
+use Rattle.uv_find.specs.Orders.{choice_at}
 
 module _ (r : Rules) (p : Place) (number : ℕ) (l : Led) where
   by_within : (c : Choice) (s : State) (line : Option Seen) (b : Bool) → choice_at r p number ≡ Some c → next r.program p.state c.event ≡ Moves s line

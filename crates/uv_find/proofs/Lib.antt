@@ -1,3 +1,4 @@
+mod Names
 mod Clocks
 mod Readings
 pub mod Ranking

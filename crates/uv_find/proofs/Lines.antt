@@ -1,17 +1,6 @@
 -- What a search reads of a line is the same of a line that leaves out times, ids and the numbers of workers.
-use Rattle.std.proofs.Common.{◌≡◌, ◌==◌, Bool, true, false, Option, Some, ap, sym, ◌∙◌, arith}
-use Rattle.std.specs.Prelude.{option_map}
-use Rattle.uv_ids.specs.declared.code.Code.{Code}
-use Rattle.uv_ids.specs.declared.id.Var.{Var}
-use Rattle.uv_ids.specs.declared.phase.Phase.{Phase}
-use Rattle.uv_ids.specs.declared.seen.Seen.{Seen}
+use Rattle.uv_find.proofs.Names.{◌≡◌, ◌==◌, Bool, true, false, Option, Some, ap, sym, ◌∙◌, arith, option_map, Code, Var, Seen, Program, told_line, line_by, answers_code, begins_section, begins_poll, caller, is_poll, begun, answered_name, Phase}
 use Rattle.uv_ids.specs.declared.seen.Seen.TheVariants as seen
-use Rattle.uv_script.specs.Program.{Program}
-use Rattle.uv_tale.specs.Alike.{told_line}
-use Rattle.uv_workers.specs.Workers.{line_by}
-use Rattle.uv_session.specs.Breaks.{answers_code, begins_section, begins_poll}
-use Rattle.uv_find.specs.Kept.{caller, is_poll}
-use Rattle.uv_find.specs.Questions.{begun, answered_name}
 
 -- the line without them
 abbrev pub plain_line : Program → Seen → Seen

@@ -1,41 +1,11 @@
 -- The main program never goes back: a step leads to no line before the one at which it stood.
-use Rattle.std.proofs.Common.{◌≡◌, ℕ, ◌+◌, ◌≤◌, Bool, true, false, ◌&&◌, Option, Some, None, Result, Ok, Err, slice_get, nat_le, nat_lt, length, if◌then◌else◌, refl, sym, subst, arith}
-use Rattle.uv_ids.specs.declared.code.Code.{Code}
-use Rattle.uv_ids.specs.declared.event.Event.{Event}
-use Rattle.uv_ids.specs.declared.event.Event.TheVariants.{Loop, Take, Finish, Cancel, Send, Io, Tick}
-use Rattle.uv_ids.specs.declared.fault.Why.{Why}
-use Rattle.uv_ids.specs.declared.id.Id.{Id}
-use Rattle.uv_ids.specs.declared.id.Var.{Var}
-use Rattle.uv_ids.specs.declared.order.Order.{Order}
-use Rattle.uv_records.specs.Refusals.{send_refusal}
-use Rattle.uv_records.specs.declared.handle.HandleRecord.{HandleRecord}
-use Rattle.uv_records.specs.declared.lists.WatcherKind.{WatcherKind}
+use Rattle.uv_find.proofs.Names.{◌≡◌, ℕ, ◌+◌, ◌≤◌, Bool, true, false, ◌&&◌, Option, Some, None, Result, Ok, Err, slice_get, nat_le, nat_lt, length, if◌then◌else◌, refl, sym, subst, arith, Code, Event, Loop, Take, Finish, Cancel, Send, Io, Tick, Why, Id, Var, Order, HandleRecord, WatcherKind, Program, order_of, from_heap, has_io, lines_in, CallbackLine, MainOp, Request, line_of, LATEST, State, front, front_request, live_handle, live_request, watched, Next, Moves, Refuses, goes, way, first_due, may_leave, takes_io, io_run, io_handle, Body, Main, Running, Run, Stage, send_refusal, Entry, Pending, Walking, Poll, Polled, Done, DoneUnwoken, Closing, Timers, TimersOf, Collecting, Firing, Timing, Turn, AtEntry, Behind, BehindClosing, Way, ToTimers, ToPending, ToEnd, found_both}
 use Rattle.uv_records.specs.declared.lists.WatcherKind.TheVariants as watcher
-use Rattle.uv_script.specs.Program.{Program, order_of, from_heap, has_io, lines_in}
-use Rattle.uv_script.specs.declared.op.CallbackLine.{CallbackLine}
-use Rattle.uv_script.specs.declared.op.MainOp.{MainOp}
 use Rattle.uv_script.specs.declared.op.MainOp.TheVariants as main
-use Rattle.uv_work.specs.declared.request.Request.{Request}
-use Rattle.uv_model.specs.Bounds.{line_of}
-use Rattle.uv_model.specs.Limits.{LATEST}
 use Rattle.uv_model.specs.Ops as ops
-use Rattle.uv_model.specs.State.{State, front, front_request, live_handle, live_request, watched}
 use Rattle.uv_model.specs.Next as steps
-use Rattle.uv_model.specs.Next.{Next, Moves, Refuses, next, goes, way, first_due, may_leave, takes_io, io_run, io_handle}
-use Rattle.uv_model.specs.declared.place.Body.{Body}
+use Rattle.uv_model.specs.Next.{next}
 use Rattle.uv_model.specs.declared.place.Place.{Place}
-use Rattle.uv_model.specs.declared.place.Place.TheVariants.{Main, Running}
-use Rattle.uv_model.specs.declared.place.Run.{Run}
-use Rattle.uv_model.specs.declared.place.Stage.{Stage}
-use Rattle.uv_model.specs.declared.place.Stage.TheVariants.{Entry, Pending, Walking, Poll, Polled, Done, DoneUnwoken, Closing, Timers}
-use Rattle.uv_model.specs.declared.place.TimersOf.{TimersOf}
-use Rattle.uv_model.specs.declared.place.Timing.TheVariants.{Collecting, Firing}
-use Rattle.uv_model.specs.declared.place.Timing.{Timing}
-use Rattle.uv_model.specs.declared.place.Turn.{Turn}
-use Rattle.uv_model.specs.declared.place.Turn.TheVariants.{AtEntry, Behind, BehindClosing}
-use Rattle.uv_model.specs.declared.place.Way.{Way}
-use Rattle.uv_model.specs.declared.place.Way.TheVariants.{ToTimers, ToPending, ToEnd}
-use Rattle.uv_model.proofs.Found.{found_both}
 
 abbrev pub StaysPast : ℕ → Next → Type 0
 StaysPast n (Moves t line) = n ≤ line_of t.place

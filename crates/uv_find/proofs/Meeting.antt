@@ -1,31 +1,9 @@
 -- Two moves from a place where the first is apart: made in either order they meet.
-use Rattle.std.proofs.Common.{◌≡◌, ℕ, suc, ◌+◌, ◌<◌, ◌&&◌, ◌||◌, not, Bool, true, false, List, [], ◌∷◌, ◌++◌, length, length-append, nat_lt, slice_get, refl, sym, ap, ap₂, subst, ◌∙◌, Option, Some, None, if◌then◌else◌, arith}
-use Rattle.std.proofs.lemmas.Bool.{and_parts, ltb-true}
-use Rattle.std.proofs.lemmas.Option.{same_Some}
-use Rattle.uv_ids.specs.declared.event.Event.{Event}
+use Rattle.uv_find.proofs.Names.{◌≡◌, ℕ, suc, ◌+◌, ◌<◌, ◌&&◌, ◌||◌, not, Bool, true, false, List, [], ◌∷◌, ◌++◌, length, length-append, nat_lt, slice_get, refl, sym, ap, ap₂, subst, ◌∙◌, Option, Some, None, if◌then◌else◌, arith, and_parts, ltb-true, same_Some, Event, Loop, Seen, State, Next, Moves, Refuses, reads_clock, is_apart, Meets, LeavesPlace, loop_keeps, ticks_apart, takes_apart, finishes_apart, tick_leaves, take_leaves, finish_leaves, Meet, IsApart, CoversMoves, Step, Offered, Kept, Left, can_meet, is_loop_apart, is_at_will, loop_number, may_take_io, kept_after, owes, Rules, Place, Choice, Led, led, led_by, placed, chosen, offered_by, may_take, event_of, timed, keeps_clock, brief, is_brief, at_will, taken, reached, is_within, lessened, move_count, move_count_by, keys_run, ranked, answers, line_answers, place_answers, Spot, CanHold, next_spot, spot_of, spot_code, apart, apart_by, is_loop_first, is_few, IsSpot, IsStanding, HasRoom, IsTold}
 use Rattle.uv_ids.specs.declared.event.Event.TheVariants as event
-use Rattle.uv_ids.specs.declared.event.Event.TheVariants.{Loop}
-use Rattle.uv_ids.specs.declared.seen.Seen.{Seen}
-use Rattle.uv_model.specs.State.{State}
-use Rattle.uv_model.specs.Next.{Next, Moves, Refuses, next}
-use Rattle.uv_alike.specs.Asks.{reads_clock}
-use Rattle.uv_apart.specs.Apart.{is_apart, Meets, LeavesPlace}
+use Rattle.uv_model.specs.Next.{next}
 use Rattle.uv_apart.proofs.Cancels.{apart_cancels}
-use Rattle.uv_apart.proofs.Kept.{loop_keeps, ticks_apart}
-use Rattle.uv_apart.proofs.Pool.{takes_apart, finishes_apart}
-use Rattle.uv_apart.proofs.Taken.{tick_leaves, take_leaves, finish_leaves}
-use Rattle.uv_search.specs.Ways.{Meet, IsApart, CoversMoves}
-use Rattle.uv_asking.specs.declared.asking.Offer.TheVariants.{Step}
-use Rattle.uv_asking.specs.declared.asking.Offered.{Offered}
-use Rattle.uv_find.specs.declared.kept.Kept.{Kept}
-use Rattle.uv_find.specs.declared.left.Left.{Left}
 use Rattle.uv_find.specs.declared.left.Left.TheVariants as left
-use Rattle.uv_find.specs.Holding.{can_meet, is_loop_apart, is_at_will, loop_number, may_take_io}
-use Rattle.uv_find.specs.Kept.{kept_after, owes}
-use Rattle.uv_find.specs.Orders.{Rules, Place, Choice, Led, led, led_by, placed, chosen, offered_by, may_take, event_of, timed, keeps_clock, brief, is_brief, at_will, taken, reached, is_within, lessened, move_count, move_count_by}
-use Rattle.uv_find.specs.Ranks.{keys_run, ranked}
-use Rattle.uv_find.specs.Questions.{answers, line_answers, place_answers}
-use Rattle.uv_find.specs.Spots.{Spot, CanHold, next_spot, spot_of, spot_code, apart, apart_by, is_loop_first, is_few, IsSpot, IsStanding, HasRoom, IsTold}
 use Rattle.uv_find.proofs.Keys.{keys_stay}
 use Rattle.uv_find.proofs.Led.{event_at, choice_is, spots_lead}
 use Rattle.uv_find.proofs.Covering.{spots_alike}

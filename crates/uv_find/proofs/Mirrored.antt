@@ -1,37 +1,9 @@
 -- A state in which one name and the next one have changed places: it is as regular, and a step goes as it does.
-use Rattle.std.proofs.Common.{if◌then◌else◌, ◌≡◌, ℕ, ◌+◌, ◌<◌, ◌≤◌, ◌^◌, Bool, true, false, List, [], ◌∷◌, length, slice_get, nat_le, refl, ap, sym, subst, ◌∙◌, Option, Some, None, arith}
-use Rattle.std.specs.Prelude.{map, option_map, unwrap_or}
-use Rattle.std.proofs.lemmas.List.{length-map}
-use Rattle.std.proofs.lemmas.Option.{none-some, same_Some, slice_get-map}
-use Rattle.uv_ids.specs.declared.due.Due.{Due}
-use Rattle.uv_ids.specs.declared.event.Event.{Event}
-use Rattle.uv_ids.specs.declared.id.Id.{Id}
-use Rattle.uv_ids.specs.declared.id.Var.{Var}
-use Rattle.uv_script.specs.Program.{Program, arena_size}
-use Rattle.uv_records.specs.Handles.{is_timer}
+use Rattle.uv_find.proofs.Names.{if◌then◌else◌, ◌≡◌, ℕ, ◌+◌, ◌<◌, ◌≤◌, ◌^◌, Bool, true, false, List, [], ◌∷◌, length, slice_get, nat_le, refl, ap, sym, subst, ◌∙◌, Option, Some, None, arith, map, option_map, unwrap_or, length-map, none-some, same_Some, slice_get-map, Event, Id, Var, Program, arena_size, is_timer, held, Walk, HandleRecord, Named, Slot, Content, handle_in, Next, Moves, Refuses, first_due, State, named, handle, front, with_id, IsTimer, IsTimed, IsInSlot, IsYoung, changed, changed_entry, changed_event, changed_line, changed_next, changed_place, changed_walk, held_mapped, moved_var, moved_content, moved_slot, by_names, AreAlike, place_of, arranged_slots, name_in, IsTidy, vacancies, vacant, Fits, get_arranged, IsRegular, Due, CanBury}
 use Rattle.uv_records.specs.Names as names
-use Rattle.uv_records.specs.Slots.{held}
-use Rattle.uv_records.specs.Walks.{Walk}
-use Rattle.uv_records.specs.declared.handle.HandleRecord.{HandleRecord}
-use Rattle.uv_records.specs.declared.named.Named.{Named}
-use Rattle.uv_records.specs.declared.slot.Slot.{Slot}
-use Rattle.uv_work.specs.declared.content.Content.{Content}
 use Rattle.uv_work.specs.declared.content.Content.TheVariants as content
-use Rattle.uv_model.specs.Content.{handle_in}
-use Rattle.uv_model.specs.Next.{Next, Moves, Refuses, next, first_due}
-use Rattle.uv_model.specs.State.{State, named, handle, front, with_id}
-use Rattle.uv_order.specs.Active.{IsTimer}
-use Rattle.uv_shift.specs.Earliest.{IsTimed}
-use Rattle.uv_generations.specs.Youngest.{IsInSlot, IsYoung}
-use Rattle.uv_alike.specs.Changed.{changed, changed_entry, changed_event, changed_line, changed_next, changed_place, changed_walk}
-use Rattle.uv_alike.proofs.Mapped.{held_mapped}
-use Rattle.uv_slots.specs.Alike.{moved_var, moved_content, moved_slot, by_names, AreAlike}
-use Rattle.uv_slots.specs.Arranged.{place_of, arranged_slots}
-use Rattle.uv_slots.specs.Buried.{CanBury, is_past_by}
-use Rattle.uv_alike.specs.Contents.{name_in}
-use Rattle.uv_slots.specs.NamedForm.{IsTidy, vacancies, vacant}
-use Rattle.uv_slots.proofs.Orders.{Fits, get_arranged}
-use Rattle.uv_tale.specs.Alike.{IsRegular}
+use Rattle.uv_model.specs.Next.{next}
+use Rattle.uv_slots.specs.Buried.{is_past_by}
 use Rattle.uv_find.proofs.Swap.{swap, swap_length, swap_order, twice_stays}
 
 abbrev pub mirrored : ℕ → State → State

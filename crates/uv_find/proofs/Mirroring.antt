@@ -1,60 +1,16 @@
 -- Where workers run two requests that are alike, what answers behind the second one's finish answers as soon behind that of the first one.
-use Rattle.std.proofs.Common.{◌≡◌, ℕ, zero, suc, ◌+◌, ◌<◌, ◌≤◌, ◌==◌, ◌&&◌, not, Bool, true, false, List, [], ◌∷◌, ◌++◌, length, slice_get, slice_set, nat_lt, nat_le, if◌then◌else◌, refl, ap, ap₂, sym, subst, ◌∙◌, Option, Some, None, arith}
-use Rattle.std.specs.Prelude.{map, option_map}
-use Rattle.std.specs.List.{list_all}
-use Rattle.std.proofs.lemmas.Bool.{and_parts, ltb-true}
-use Rattle.std.proofs.lemmas.Option.{none-some, same_Some}
-use Rattle.uv_ids.specs.declared.event.Event.{Event}
-use Rattle.uv_ids.specs.declared.event.Event.TheVariants.{Loop, Take, Finish, Cancel, Send, Io, Tick}
-use Rattle.uv_ids.specs.declared.id.Id.{Id}
-use Rattle.uv_ids.specs.declared.id.Var.{Var}
-use Rattle.uv_ids.specs.declared.seen.Callback.{Callback}
-use Rattle.uv_ids.specs.declared.seen.Seen.{Seen}
+use Rattle.uv_find.proofs.Names.{◌≡◌, ℕ, zero, suc, ◌+◌, ◌<◌, ◌≤◌, ◌==◌, ◌&&◌, not, Bool, true, false, List, [], ◌∷◌, ◌++◌, length, slice_get, slice_set, nat_lt, nat_le, if◌then◌else◌, refl, ap, ap₂, sym, subst, ◌∙◌, Option, Some, None, arith, map, option_map, list_all, and_parts, ltb-true, none-some, same_Some, Event, Loop, Take, Finish, Cancel, Send, Io, Tick, Id, Var, Callback, Seen, Op, CallbackLine, Program, worker_count, is_for, lines_in, op_name, count_of, Named, line_of, Next, Moves, Refuses, State, named, Main, Running, run_ids, AreDistinct, holds_after, ClockFits, answers_code, begins_section, begins_poll, changed_callback, changed_event, changed_line, changed_op, changed_place, moved_var, by_names, place_of, same_place, LeadsRegular, has_at, Most, Offer, Offered, Question, Recorded, Which, Along, Kept, Left, are_at_will, is_clear_of_takes, kept_due, time_at_end, owed_after, is_poll, along_after, kept_after, offer_spares, main_spares, question_spares, is_beside, Rules, Place, Led, led, at_will, first_offer, lessened, lessened_by, move_count, offered_by, brief, is_called_within, is_within, begun, is_which, is_call, is_uncalled, answered_name, is_name, is_of, answers_line, line_answers, has_ended, place_answers, answers, rank_of, runner, finish_by, Spot, CanForget, AreOfPool, AreMates, IsSpot, is_few}
 use Rattle.uv_ids.specs.declared.seen.Seen.TheVariants as seen
 use Rattle.uv_ids.specs.declared.seen.Site.TheVariants as site
-use Rattle.uv_script.specs.declared.op.Op.{Op}
-use Rattle.uv_script.specs.declared.op.CallbackLine.{CallbackLine}
-use Rattle.uv_script.specs.Program.{Program, worker_count, is_for, lines_in, op_name}
-use Rattle.uv_records.specs.Names.{count_of}
-use Rattle.uv_records.specs.declared.named.Named.{Named}
 use Rattle.uv_model.specs.After.{after}
-use Rattle.uv_model.specs.Bounds.{line_of}
-use Rattle.uv_model.specs.Next.{Next, Moves, Refuses, next}
-use Rattle.uv_model.specs.State.{State, named}
+use Rattle.uv_model.specs.Next.{next}
 use Rattle.uv_model.specs.declared.place.Place as loop
-use Rattle.uv_model.specs.declared.place.Place.TheVariants.{Main, Running}
-use Rattle.uv_order.specs.Active.{run_ids, AreDistinct}
-use Rattle.uv_order.proofs.Documents.{holds_after}
 use Rattle.uv_order.proofs.Reaching.{reached}
-use Rattle.uv_shift.specs.Shift.{ClockFits}
-use Rattle.uv_session.specs.Breaks.{answers_code, begins_section, begins_poll}
-use Rattle.uv_alike.specs.Changed.{changed_callback, changed_event, changed_line, changed_op, changed_place}
-use Rattle.uv_slots.specs.Alike.{moved_var, by_names}
-use Rattle.uv_slots.specs.Arranged.{place_of}
-use Rattle.uv_slots.proofs.Orders.{same_place}
-use Rattle.uv_tale.specs.Alike.{LeadsRegular}
-use Rattle.uv_tale.proofs.Given.{has_at}
-use Rattle.uv_asking.specs.declared.asking.Most.{Most}
-use Rattle.uv_asking.specs.declared.asking.Offer.{Offer}
 use Rattle.uv_asking.specs.declared.asking.Offer.TheVariants as offers
-use Rattle.uv_asking.specs.declared.asking.Offered.{Offered}
-use Rattle.uv_asking.specs.declared.asking.Question.{Question}
 use Rattle.uv_asking.specs.declared.asking.Question.TheVariants as asks
-use Rattle.uv_asking.specs.declared.asking.Recorded.{Recorded}
-use Rattle.uv_asking.specs.declared.asking.Which.{Which}
 use Rattle.uv_asking.specs.declared.asking.Which.TheVariants as which
-use Rattle.uv_find.specs.declared.kept.Along.{Along}
-use Rattle.uv_find.specs.declared.kept.Kept.{Kept}
-use Rattle.uv_find.specs.declared.left.Left.{Left}
 use Rattle.uv_find.specs.declared.left.Left.TheVariants as left
-use Rattle.uv_find.specs.Holding.{are_at_will, is_clear_of_takes}
-use Rattle.uv_find.specs.Kept.{kept_due, time_at_end, owed_after, is_poll, along_after, kept_after}
-use Rattle.uv_find.specs.Mates.{offer_spares, main_spares, question_spares}
-use Rattle.uv_find.specs.Ops.{is_beside}
-use Rattle.uv_find.specs.Orders.{Rules, Place, Led, led, at_will, first_offer, lessened, lessened_by, move_count, offered_by, brief, is_called_within, is_within}
-use Rattle.uv_find.specs.Questions.{begun, is_which, is_call, is_uncalled, answered_name, name_in, is_name, is_of, answers_line, line_answers, has_ended, place_answers, answers}
-use Rattle.uv_find.specs.Ranks.{rank_of, runner, finish_by}
-use Rattle.uv_find.specs.Spots.{Spot, CanForget, AreOfPool, AreMates, IsSpot, is_few}
+use Rattle.uv_find.specs.Questions.{name_in}
 use Rattle.uv_find.proofs.Alike.{IsGoing, spot_going}
 use Rattle.uv_find.proofs.AtOnce.{will_of, wills_stay, not_less, shown, at_will_is, finish_shown}
 use Rattle.uv_find.proofs.Equal.{name_changed}

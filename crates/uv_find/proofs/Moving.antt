@@ -1,15 +1,8 @@
 -- Moves of a search are events of a loop, and events are moves.
-use Rattle.std.proofs.Common.{◌≡◌, ℕ, suc, ◌+◌, ◌<◌, ◌≤◌, length, length-append, nat_lt, if◌then◌else◌, Bool, true, false, List, [], ◌∷◌, ◌++◌, refl, sym, ap, subst, ◌∙◌, Option, Some, None, append_assoc, arith}
-use Rattle.std.proofs.lemmas.Bool.{ltb-true}
-use Rattle.std.proofs.lemmas.Grind.{common_steps}
-use Rattle.uv_ids.specs.declared.event.Event.{Event}
-use Rattle.uv_search.specs.Ways.{LeadTo, Answers}
-use Rattle.uv_model.specs.Next.{Moves, next}
-use Rattle.uv_find.specs.Orders.{Rules, Place, Choice, Led, led, led_by, placed, choice_at, choice_by, reached, move_count}
-use Rattle.uv_find.specs.Questions.{answers}
+use Rattle.uv_find.proofs.Names.{◌≡◌, ℕ, suc, ◌+◌, ◌<◌, ◌≤◌, length, length-append, nat_lt, if◌then◌else◌, Bool, true, false, List, [], ◌∷◌, ◌++◌, refl, sym, ap, subst, ◌∙◌, Option, Some, None, append_assoc, arith, ltb-true, common_steps, Event, LeadTo, Answers, Moves, Rules, Place, Choice, Led, led, led_by, placed, choice_by, reached, move_count, answers, Course, LeadsOn, Spot, spot_of, next_spot, is_few}
+use Rattle.uv_model.specs.Next.{next}
+use Rattle.uv_find.specs.Orders.{choice_at}
 use Rattle.uv_find.specs.Courses as courses
-use Rattle.uv_find.specs.Courses.{Course, LeadsOn}
-use Rattle.uv_find.specs.Spots.{Spot, spot_of, next_spot, is_few}
 use Rattle.uv_find.proofs.Led.{led_leads, spot_led}
 
 -- the spot after an event

@@ -1,9 +1,6 @@
 -- Where the finishes stand among the offers.
-use Rattle.std.proofs.Common.{◌≡◌, Bool, ℕ, zero, suc, ◌<◌, ◌⊎◌, inl, inr, List, [], ◌∷◌, ◌++◌, length, slice_get, refl, sym, ap, subst, ◌∙◌, Some, append_assoc, length-append, arith}
+use Rattle.uv_find.proofs.Names.{◌≡◌, Bool, ℕ, zero, suc, ◌<◌, ◌⊎◌, inl, inr, List, [], ◌∷◌, ◌++◌, length, slice_get, refl, sym, ap, subst, ◌∙◌, Some, append_assoc, length-append, arith, Step, Offered, at_will, first_offers, finishes}
 use Rattle.uv_ids.specs.declared.event.Event.TheVariants as event
-use Rattle.uv_asking.specs.declared.asking.Offer.TheVariants.{Step}
-use Rattle.uv_asking.specs.declared.asking.Offered.{Offered}
-use Rattle.uv_find.specs.Orders.{at_will, first_offers, finishes}
 
 pub or_last : (k n : ℕ) → k < suc n → (k ≡ n) ⊎ (k < n)
 or_last k n l = grind arith

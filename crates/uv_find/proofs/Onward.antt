@@ -1,32 +1,11 @@
 -- Where places that are alike lead by the same event: to places that are alike, which answer alike.
-use Rattle.std.proofs.Common.{◌≡◌, ℕ, ◌+◌, ◌-◌, ◌≤◌, ◌==◌, ◌&&◌, not, Bool, Option, Some, None, nat_le, refl, ap, ap₂, sym, ◌∙◌, arith, if◌then◌else◌}
-use Rattle.std.proofs.lemmas.Option.{same_Some, none-some}
-use Rattle.uv_ids.specs.declared.event.Event.{Event}
-use Rattle.uv_ids.specs.declared.event.Event.TheVariants.{Loop, Take, Finish, Cancel, Send, Io, Tick}
-use Rattle.uv_ids.specs.declared.id.Var.{Var}
-use Rattle.uv_ids.specs.declared.seen.Callback.{Callback}
+use Rattle.uv_find.proofs.Names.{◌≡◌, ℕ, ◌+◌, ◌-◌, ◌≤◌, ◌==◌, ◌&&◌, not, Bool, Option, Some, None, nat_le, refl, ap, ap₂, sym, ◌∙◌, arith, if◌then◌else◌, same_Some, none-some, Event, Loop, Take, Finish, Cancel, Send, Io, Tick, Var, Callback, Seen, Program, is_for, State, calls_timer, IsRegular, tale, Which, Question, Along, answers_code, begins_section, begins_poll, call_end, question_end, caller, is_poll, is_over, takes_time, time_taken, time_at_end, owed_in, owed_by, owed_after, nearer, arrived, along_after, Rules, begun, is_which, is_call, is_uncalled, answered_name, is_of, is_awaited, is_late, answers_line, line_answers, CanForget, Reads}
 use Rattle.uv_ids.specs.declared.seen.Callback.TheVariants as callback
-use Rattle.uv_ids.specs.declared.seen.Seen.{Seen}
 use Rattle.uv_ids.specs.declared.seen.Seen.TheVariants as seen
-use Rattle.uv_script.specs.Program.{Program, is_for}
-use Rattle.uv_model.specs.State.{State}
-use Rattle.uv_tale.specs.Alike.{calls_timer, IsRegular}
-use Rattle.uv_tale.specs.Tale.{tale}
-use Rattle.uv_asking.specs.declared.asking.Which.{Which}
 use Rattle.uv_asking.specs.declared.asking.Which.TheVariants as which
-use Rattle.uv_asking.specs.declared.asking.Question.{Question}
 use Rattle.uv_asking.specs.declared.asking.Question.TheVariants as asks
-use Rattle.uv_find.specs.declared.kept.Along.{Along}
-use Rattle.uv_session.specs.Breaks.{answers_code, begins_section, begins_poll}
-use Rattle.uv_names.specs.Counts.{call_end}
-use Rattle.uv_find.specs.Forgetting.{question_end}
-use Rattle.uv_find.specs.Kept.{caller, is_poll, is_over, takes_time, time_taken, time_at_end, owed_in, owed_by, owed_after, nearer, arrived, along_after}
-use Rattle.uv_find.specs.Orders.{Rules}
-use Rattle.uv_find.specs.Questions.{begun, is_which, is_call, is_uncalled, answered_name, is_of, is_awaited, is_late, answers_line, line_answers}
-use Rattle.uv_find.specs.Spots.{CanForget}
 use Rattle.uv_find.proofs.Alike.{DueAlike, both}
 use Rattle.uv_find.proofs.Lines.{LinesAlike, plain_line, lines_read, plain_caller, plain_begun, plain_answered, plain_code, plain_section, plain_poll, plain_is_poll, is_tick, plain_tick}
-use Rattle.uv_tale.proofs.Reading.{Reads}
 use Rattle.uv_find.proofs.Readings.{count, reads_count, meant_capped, none_capped, taken_capped, reads_over}
 
 lines_by : {X : Type 0} (p : Program) (f : Option Seen → X) → ((l m : Seen) → plain_line p l ≡ plain_line p m → f (Some l) ≡ f (Some m)) →

@@ -1,17 +1,5 @@
 -- The first worker of which something holds, and the ranks of requests.
-use Rattle.std.proofs.Common.{◌≡◌, ℕ, zero, suc, ◌+◌, ◌<◌, ◌≤◌, ◌==◌, ◌&&◌, ◌||◌, not, List, [], ◌∷◌, Bool, true, false, cond, length, take, drop, slice_get, nat_lt, nat_le, refl, ap, ap₂, sym, subst, ◌∙◌, Option, Some, None, if◌then◌else◌, add-one, arith}
-use Rattle.std.specs.Prelude.{map, option_map}
-use Rattle.std.specs.List.{position_from}
-use Rattle.std.proofs.lemmas.Bool.Decides.{nat_tests}
-use Rattle.std.proofs.lemmas.List.{drop_all}
-use Rattle.std.proofs.lemmas.Option.{same_Some, none-some}
-use Rattle.uv_ids.specs.declared.id.Id.{Id}
-use Rattle.uv_records.specs.declared.slot.Slot.{Slot}
-use Rattle.uv_work.specs.declared.content.Content.{Content}
-use Rattle.uv_model.specs.State.{State}
-use Rattle.uv_workers.specs.Workers.{id_le, with_run, ordered}
-use Rattle.uv_tale.specs.Tale.{name_at, as_id, run_names}
-use Rattle.uv_find.specs.Ranks.{key_at, run_in, count_before, rank_in}
+use Rattle.uv_find.proofs.Names.{◌≡◌, ℕ, zero, suc, ◌+◌, ◌<◌, ◌≤◌, ◌==◌, ◌&&◌, ◌||◌, not, List, [], ◌∷◌, Bool, true, false, cond, length, take, drop, slice_get, nat_lt, nat_le, refl, ap, ap₂, sym, subst, ◌∙◌, Option, Some, None, if◌then◌else◌, add-one, arith, map, option_map, position_from, nat_tests, drop_all, same_Some, none-some, Id, Slot, Content, State, id_le, with_run, ordered, name_at, as_id, run_names, key_at, run_in, count_before, rank_in}
 
 abbrev pub Run : Type 0
 Run = Option Id

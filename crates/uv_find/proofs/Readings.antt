@@ -1,37 +1,11 @@
 -- What a search reads of a state is read off its tale.
-use Rattle.std.proofs.Common.{◌≡◌, ℕ, ◌+◌, ◌-◌, ◌<◌, ◌≤◌, ◌==◌, Bool, true, false, List, [], ◌∷◌, Option, Some, None, nat_eq, nat_le, is_some, slice_get, refl, ap, ◌∙◌, arith, if◌then◌else◌}
-use Rattle.std.specs.Prelude.{min, map, option_map, unwrap_or}
-use Rattle.std.specs.Option.{option_eq}
-use Rattle.std.proofs.lemmas.Option.{slice_get-map}
-use Rattle.uv_ids.specs.declared.id.Id.{Id}
-use Rattle.uv_ids.specs.declared.id.Var.{Var}
-use Rattle.uv_ids.specs.declared.seen.Callback.{Callback}
-use Rattle.uv_records.specs.declared.named.Named.{Named}
-use Rattle.uv_records.specs.declared.slot.Slot.{Slot}
-use Rattle.uv_records.specs.Handles.{is_timer}
-use Rattle.uv_records.specs.Names.{count_of, unbound}
-use Rattle.uv_records.specs.Slots.{held}
-use Rattle.uv_script.specs.Program.{Program, is_for}
-use Rattle.uv_work.specs.declared.content.Content.{Content}
+use Rattle.uv_find.proofs.Names.{◌≡◌, ℕ, ◌+◌, ◌-◌, ◌<◌, ◌≤◌, ◌==◌, Bool, true, false, List, [], ◌∷◌, Option, Some, None, nat_eq, nat_le, is_some, slice_get, refl, ap, ◌∙◌, arith, if◌then◌else◌, min, map, option_map, unwrap_or, slice_get-map, Id, Var, Callback, Named, Slot, is_timer, count_of, unbound, held, Program, is_for, Content, Main, Running, Stage, State, named, Retiming, retimed_content, retimed_stage, retimed_place, By, later, shift, capped_place, call_end, count_capped, Bound, Nothing, Gone, Told, Tale, Reads, Takes, takes_end, has_ended, is_over, is_timers_stage, is_in_timers, said_time, time_taken, or_time, is_quiet, is_behind_poll, is_closing, closes, deadline_in, deadline_at, is_in_poll, is_poll_stage, option_eq}
 use Rattle.uv_work.specs.declared.content.Content.TheVariants as content
 use Rattle.uv_model.specs.declared.place.Place.{Place}
-use Rattle.uv_model.specs.declared.place.Place.TheVariants.{Main, Running}
-use Rattle.uv_model.specs.declared.place.Stage.{Stage}
 use Rattle.uv_model.specs.declared.place.Stage.TheVariants as stage
-use Rattle.uv_model.specs.State.{State, named}
-use Rattle.uv_shift.specs.Retimed.{Retiming, retimed_content, retimed_stage, retimed_place}
-use Rattle.uv_shift.specs.Shift.{By, later, shift}
 use Rattle.uv_shift.proofs.Slots.{held_shift}
-use Rattle.uv_names.specs.Counts.{capped_place, call_end}
-use Rattle.uv_names.proofs.Counted.{count_capped}
-use Rattle.uv_tale.specs.Tale.{Bound, Nothing, Gone, Holds, Told, Tale}
+use Rattle.uv_tale.specs.Tale.{Holds}
 use Rattle.uv_tale.proofs.Told.{name_now}
-use Rattle.uv_tale.proofs.Reading.{Reads}
-use Rattle.uv_asking.specs.declared.asking.Takes.{Takes}
-use Rattle.uv_find.specs.Forgetting.{takes_end}
-use Rattle.uv_find.specs.Questions.{has_ended}
-use Rattle.uv_find.specs.Kept.{is_over, is_timers_stage, is_in_timers, said_time, time_taken, or_time}
-use Rattle.uv_find.specs.Orders.{is_quiet, is_behind_poll, is_closing, closes, deadline_in, deadline_at, is_in_poll, is_poll_stage}
 
 -- ---- names
 

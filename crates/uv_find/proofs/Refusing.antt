@@ -1,21 +1,9 @@
 -- An offer that is spent, or has no event that leads on, leads nowhere.
-use Rattle.std.proofs.Common.{◌≡◌, ℕ, true, false, not, Bool, List, Option, Some, None, is_none, nat_lt, option_and_then, Err, slice_get, if◌then◌else◌, refl, ap, ◌∙◌}
-use Rattle.uv_ids.specs.declared.event.Event.{Event}
+use Rattle.uv_find.proofs.Names.{◌≡◌, ℕ, true, false, not, Bool, List, Option, Some, None, is_none, nat_lt, option_and_then, Err, slice_get, if◌then◌else◌, refl, ap, ◌∙◌, Event, Why, Id, Offer, Step, Wait, WaitFor, Offered, finish, work_of, State, Program, Kept, Left, Rules, Place, Choice, chosen, choice_by, event_of, keeps_clock, led, led_by, lessened, may_take, move_count, offered_by, placed, reached, timed, wait_until, is_brief, brief, may_last, wait_for, is_blocked, runner, finish_by, ranked, runs_none, has_none, is_idle}
 use Rattle.uv_ids.specs.declared.event.Event.TheVariants as event
-use Rattle.uv_ids.specs.declared.fault.Why.{Why}
 use Rattle.uv_ids.specs.declared.fault.Why.TheVariants as why
-use Rattle.uv_ids.specs.declared.id.Id.{Id}
-use Rattle.uv_asking.specs.declared.asking.Offer.{Offer}
-use Rattle.uv_asking.specs.declared.asking.Offer.TheVariants.{Step, Wait, WaitFor}
-use Rattle.uv_asking.specs.declared.asking.Offered.{Offered}
-use Rattle.uv_model.specs.Next.{next, finish, work_of}
-use Rattle.uv_model.specs.State.{State}
-use Rattle.uv_script.specs.Program.{Program}
-use Rattle.uv_find.specs.declared.kept.Kept.{Kept}
-use Rattle.uv_find.specs.declared.left.Left.{Left}
-use Rattle.uv_find.specs.Orders.{Rules, Place, Choice, chosen, choice_at, choice_by, event_of, keeps_clock, led, led_by, lessened, may_take, move_count, offered_by, placed, reached, timed, wait_until, is_brief, brief, may_last, wait_for, is_blocked}
-use Rattle.uv_find.specs.Ranks.{runner, finish_by, ranked}
-use Rattle.uv_find.specs.Steps.{runs_none, has_none, is_idle}
+use Rattle.uv_model.specs.Next.{next}
+use Rattle.uv_find.specs.Orders.{choice_at}
 
 runs_nothing : (s : State) (x : Option (Option Id)) → is_none (option_and_then (λ run. run) x) ≡ true → (w : Why) × (work_of s x ≡ Err w)
 runs_nothing s None e = (why.NoWorker, refl)

@@ -1,22 +1,9 @@
 -- What a search of spots says of orders.
-use Rattle.std.proofs.Common.{◌≡◌, ℕ, suc, ◌+◌, ◌≤◌, ◌==◌, ◌&&◌, ◌||◌, not, length, length-append, ◌⊎◌, Option, Some, None, ap, true, false, Bool, is_some, if◌then◌else◌, inl, inr, List, [], ◌∷◌, ◌++◌, refl, sym, subst, ◌∙◌, arith, append-nil}
+use Rattle.uv_find.proofs.Names.{◌≡◌, ℕ, suc, ◌+◌, ◌≤◌, ◌==◌, ◌&&◌, ◌||◌, not, length, length-append, ◌⊎◌, Option, Some, None, ap, true, false, Bool, is_some, if◌then◌else◌, inl, inr, List, [], ◌∷◌, ◌++◌, refl, sym, subst, ◌∙◌, arith, append-nil, Event, STEPS, after-nil, worker_count, are_at_will, is_empty, loop_number, owes, is_covered, Rules, Place, Led, move_count, Course, KeptCourse, AnswersBy, answers, place_answers, Spot, next_spot, spot_code, place_code, first_spot, is_few, is_told, holds_back, apart, covered, apart_by, is_loop_first, is_take_first, IsTold, MayForget, IsSpot, IsDeep, AllLead, OneLeads, AreClosed, AreReached, Finds, KeysTell, Has}
 use Rattle.std.specs.List.{IsDistinct}
-use Rattle.uv_ids.specs.declared.event.Event.{Event}
-use Rattle.uv_model.specs.After.{STEPS}
-use Rattle.uv_model.proofs.Runs.{after-nil}
-use Rattle.uv_search.specs.Keys.{Has}
 use Rattle.uv_search.specs.Settled as settled
 use Rattle.uv_find.specs.declared.finding.Answer.TheVariants as answer
-use Rattle.uv_script.specs.Program.{worker_count}
-use Rattle.uv_find.specs.Holding.{are_at_will, is_empty, loop_number}
-use Rattle.uv_find.specs.Kept.{owes}
-use Rattle.uv_find.specs.Mates.{is_covered}
-use Rattle.uv_find.specs.Orders.{Rules, Place, Led, move_count}
 use Rattle.uv_find.specs.Courses as courses
-use Rattle.uv_find.specs.Courses.{Course, KeptCourse, AnswersBy}
-use Rattle.uv_find.specs.Questions.{answers, place_answers}
-use Rattle.uv_find.specs.Spots.{Spot, next_spot, spot_code, place_code, first_spot, is_few, is_told, holds_back, apart, covered, apart_by, is_loop_first, is_take_first, IsTold, MayForget, IsSpot, IsDeep}
-use Rattle.uv_find.specs.Found.{AllLead, OneLeads, AreClosed, AreReached, Finds, KeysTell}
 use Rattle.uv_find.proofs.Led.{led_leads, leads_spot}
 use Rattle.uv_find.proofs.Telling.{places_tell}
 use Rattle.uv_find.proofs.Moving.{LeadsTo, fewer, after_event, move_is, event_move, moves_course, course_moves, moves_answer, course_answers}

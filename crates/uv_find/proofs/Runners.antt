@@ -1,28 +1,9 @@
 -- Workers of two states of which the same is told: of each rank they run requests of one name.
-use Rattle.std.proofs.Common.{◌≡◌, ℕ, zero, suc, ◌⊎◌, inl, inr, ◌<◌, List, [], ◌∷◌, true, false, length, is_none, slice_get, slice_set, refl, ap, sym, subst, ◌∙◌, Option, Some, None, Result, Ok, Err}
-use Rattle.std.specs.Prelude.{map, option_map}
-use Rattle.std.proofs.lemmas.Bool.{eqb-true}
-use Rattle.std.proofs.lemmas.List.{length-map, length-replicate}
-use Rattle.std.proofs.lemmas.Option.{none-some, same_Some, slice_get-map}
-use Rattle.uv_ids.specs.declared.event.Event.{Event}
-use Rattle.uv_ids.specs.declared.event.Event.TheVariants.{Loop, Take, Finish, Cancel, Send, Io, Tick}
-use Rattle.uv_ids.specs.declared.fault.Why.{Why}
-use Rattle.uv_ids.specs.declared.id.Id.{Id}
-use Rattle.uv_script.specs.Program.{Program, worker_count}
-use Rattle.uv_work.specs.declared.request.Request.{Request}
-use Rattle.uv_model.specs.After.{after, goes_on, state_of}
+use Rattle.uv_find.proofs.Names.{◌≡◌, ℕ, zero, suc, ◌⊎◌, inl, inr, ◌<◌, List, [], ◌∷◌, true, false, length, is_none, slice_get, slice_set, refl, ap, sym, subst, ◌∙◌, Option, Some, None, Result, Ok, Err, map, option_map, eqb-true, length-map, length-replicate, none-some, same_Some, slice_get-map, Event, Loop, Take, Finish, Cancel, Send, Io, Tick, Why, Id, Program, worker_count, Request, goes_on, state_of, Next, Moves, Refuses, State, fresh, named, is_of_worker, ordered, name_in, has_at, IsRegular, found_alike, number_of, name_at, as_id, Tale, tale, take_by, key_at, keys_run, idle_worker, rank_in, rank_of, is_of_rank, runner, finish_by}
+use Rattle.uv_model.specs.After.{after}
 use Rattle.uv_model.specs.Next as steps
-use Rattle.uv_model.specs.Next.{Next, Moves, Refuses, next}
-use Rattle.uv_model.specs.State.{State, fresh, named}
-use Rattle.uv_workers.specs.Workers.{is_of_worker, ordered}
-use Rattle.uv_alike.specs.Contents.{name_in}
+use Rattle.uv_model.specs.Next.{next}
 use Rattle.uv_workers.proofs.Frame.{put_next, next_same}
-use Rattle.uv_tale.proofs.Given.{has_at}
-use Rattle.uv_tale.specs.Alike.{IsRegular}
-use Rattle.uv_workers.proofs.Runs.{found_alike}
-use Rattle.uv_tale.specs.Tale.{number_of, name_at, as_id, Tale, tale}
-use Rattle.uv_find.specs.Orders.{take_by}
-use Rattle.uv_find.specs.Ranks.{key_at, keys_run, idle_worker, rank_in, rank_of, is_of_rank, runner, finish_by}
 use Rattle.uv_find.proofs.Ranking.{Run, equal_is, first_at, first_some, rank_ordered, rank_one, rank_within, called, rank_by_name}
 
 -- ---- how many they are

@@ -1,52 +1,14 @@
 -- The orders of a script, and those of the script in which each request asks for the same work: they go by the same events.
-use Rattle.std.proofs.Common.{if◌then◌else◌, ◌≡◌, ◌∙◌, ℕ, zero, suc, ◌+◌, ◌==◌, ◌&&◌, not, max, Bool, true, false, List, [], ◌∷◌, ◌++◌, length, nat_lt, is_none, slice_get, refl, ap, ap₂, sym, subst, Option, Some, None, inl, inr, arith}
-use Rattle.std.specs.Prelude.{map, option_map}
-use Rattle.std.specs.List.{list_all}
-use Rattle.std.proofs.lemmas.List.{length-map}
-use Rattle.std.proofs.lemmas.Option.{slice_get-map}
-use Rattle.uv_ids.specs.declared.event.Event.{Event}
-use Rattle.uv_ids.specs.declared.event.Event.TheVariants.{Loop, Finish, Send, Tick}
-use Rattle.uv_ids.specs.declared.id.Id.{Id}
-use Rattle.uv_ids.specs.declared.seen.Seen.{Seen}
-use Rattle.uv_ids.specs.declared.seen.Site.{Site}
+use Rattle.uv_find.proofs.Names.{if◌then◌else◌, ◌≡◌, ◌∙◌, ℕ, zero, suc, ◌+◌, ◌==◌, ◌&&◌, not, max, Bool, true, false, List, [], ◌∷◌, ◌++◌, length, nat_lt, is_none, slice_get, refl, ap, ap₂, sym, subst, Option, Some, None, inl, inr, arith, map, option_map, list_all, length-map, slice_get-map, Event, Loop, Finish, Send, Tick, Id, Seen, Site, held, Program, Callbacks, arena_size, op_at, op_name, CallbackLine, MainOp, Op, Content, STEPS, Next, Moves, Refuses, State, fresh, named, Main, Running, answers_code, held_mapped, all_end, call_end, lines_end, script_end, Asked, Offer, Offered, Question, Takes, Kept, Left, LeadsOn, Course, IsAnswer, NeverAnswered, LONGEST, are_aside, are_small_offers, are_small_takes, is_small_op, is_declared, forget_of, may_forget, most_end, takes_end, question_end, IsDeepest, are_clear_of_takes, asks_late, is_empty, is_no_cancel, may_take_at_once, due_in, due_else, due_under, kept_due, owed_after, is_poll, arrived, nearer, along_after, mates_in, each_op, of_callbacks, of_lines, of_main, Rules, Place, Choice, Led, beginning, is_quiet, chosen, closes, deadline_at, event_of, is_blocked, is_free, is_within, led, led_by, lessened, may_take, move_count, offered_by, brief, placed, reached, refused_as_blocked, spending, is_made, aim, step_of, taken, timed, wait_until, may_last, is_run, answers, answers_line, begun, has_ended, is_uncalled, line_answers, none_leads, place_answers, rank_in, is_of_rank, ranked, Spot, rules_of, first_spot, holds_back, is_few, same_op, same_line, same_main, same_callbacks, same_work}
 use Rattle.uv_ids.specs.declared.seen.Site.TheVariants as site
-use Rattle.uv_records.specs.Slots.{held}
-use Rattle.uv_script.specs.Program.{Program, Callbacks, arena_size, op_at, op_name}
-use Rattle.uv_script.specs.declared.op.CallbackLine.{CallbackLine}
-use Rattle.uv_script.specs.declared.op.MainOp.{MainOp}
-use Rattle.uv_script.specs.declared.op.Op.{Op}
-use Rattle.uv_work.specs.declared.content.Content.{Content}
-use Rattle.uv_model.specs.After.{STEPS}
-use Rattle.uv_model.specs.Next.{Next, Moves, Refuses, next}
-use Rattle.uv_model.specs.State.{State, fresh, named}
+use Rattle.uv_model.specs.Next.{next}
 use Rattle.uv_model.specs.declared.place.Place as loop
-use Rattle.uv_model.specs.declared.place.Place.TheVariants.{Main, Running}
-use Rattle.uv_session.specs.Breaks.{answers_code}
-use Rattle.uv_alike.proofs.Mapped.{held_mapped}
-use Rattle.uv_names.specs.Counts.{all_end, call_end, lines_end, script_end}
-use Rattle.uv_script.specs.SameWork.{same_op, same_line, same_main, same_callbacks, same_work}
 use Rattle.uv_tasks.specs.Tasks.{same_content, same_state, same_seen, same_next}
 use Rattle.uv_tasks.proofs.Steps.{lines_same}
-use Rattle.uv_asking.specs.Asked.{Asked}
-use Rattle.uv_asking.specs.declared.asking.Offer.{Offer}
 use Rattle.uv_asking.specs.declared.asking.Offer.TheVariants as offers
-use Rattle.uv_asking.specs.declared.asking.Offered.{Offered}
-use Rattle.uv_asking.specs.declared.asking.Question.{Question}
 use Rattle.uv_asking.specs.declared.asking.Question.TheVariants as asks
-use Rattle.uv_asking.specs.declared.asking.Takes.{Takes}
-use Rattle.uv_find.specs.declared.kept.Kept.{Kept}
-use Rattle.uv_find.specs.declared.left.Left.{Left}
-use Rattle.uv_find.specs.Courses.{LeadsOn, Course, IsAnswer, NeverAnswered}
-use Rattle.uv_find.specs.Forgetting.{LONGEST, are_aside, are_small_offers, are_small_takes, is_small_op, is_declared, forget_of, may_forget, most_end, takes_end, question_end}
-use Rattle.uv_find.specs.Found.{IsDeepest}
-use Rattle.uv_find.specs.Holding.{are_clear_of_takes, asks_late, is_empty, is_no_cancel, may_take_at_once}
-use Rattle.uv_find.specs.Kept.{due_in, due_else, due_under, kept_due, owed_after, is_poll, arrived, nearer, along_after}
-use Rattle.uv_find.specs.Mates.{mates_in}
-use Rattle.uv_find.specs.Ops.{each_op, of_callbacks, of_lines, of_main}
-use Rattle.uv_find.specs.Orders.{Rules, Place, Choice, Led, beginning, is_quiet, choice_at, chosen, closes, deadline_at, event_of, is_blocked, is_free, is_within, led, led_by, lessened, may_take, move_count, offered_by, brief, placed, reached, refused_as_blocked, spending, is_made, aim, step_of, taken, timed, wait_until, may_last, is_run}
-use Rattle.uv_find.specs.Questions.{answers, answers_line, begun, has_ended, is_uncalled, line_answers, name_in, none_leads, place_answers}
-use Rattle.uv_find.specs.Ranks.{rank_in, is_of_rank, ranked}
-use Rattle.uv_find.specs.Spots.{Spot, rules_of, first_spot, holds_back, is_few}
+use Rattle.uv_find.specs.Orders.{choice_at}
+use Rattle.uv_find.specs.Questions.{name_in}
 use Rattle.uv_find.specs.SameWork.{asking, asking_alike}
 use Rattle.uv_find.proofs.Led.{choice_is}
 

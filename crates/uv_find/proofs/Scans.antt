@@ -1,12 +1,5 @@
 -- A scan of a list, from its beginning on: what is known of the rest, and so of the whole.
-use Rattle.std.proofs.Common.{◌≡◌, ℕ, zero, suc, ◌+◌, ◌<◌, ◌≤◌, ◌&&◌, Bool, true, false, List, [], ◌∷◌, length, drop, Some, None, slice_get, refl, ap, ap₂, sym, ◌∙◌, arith}
-use Rattle.std.specs.Prelude.{max, unwrap_or}
-use Rattle.std.specs.List.{list_all}
-use Rattle.std.proofs.lemmas.List.{drop_all}
-use Rattle.std.proofs.lemmas.Option.{none-some, get_or_from_slice_get, slice_get_within}
-use Rattle.std.proofs.Math.Seq.{drop-cons}
-use Rattle.uv_script.specs.Program.{Callbacks, no_callbacks}
-use Rattle.uv_names.specs.Counts.{callbacks_end, all_end}
+use Rattle.uv_find.proofs.Names.{◌≡◌, ℕ, zero, suc, ◌+◌, ◌<◌, ◌≤◌, ◌&&◌, Bool, true, false, List, [], ◌∷◌, length, drop, Some, None, slice_get, refl, ap, ap₂, sym, ◌∙◌, arith, max, unwrap_or, list_all, drop_all, none-some, get_or_from_slice_get, slice_get_within, drop-cons, Callbacks, no_callbacks, callbacks_end, all_end}
 
 -- an element, and those behind it
 rest_at : {A : Type 0} (xs : List A) (k : ℕ) (x : A) → slice_get xs k ≡ Some x → drop k xs ≡ x ∷ drop (k + 1) xs

@@ -1,10 +1,5 @@
 -- The order of names in which one name and the next one have changed places.
-use Rattle.std.proofs.Common.{◌≡◌, ℕ, zero, suc, ◌+◌, ◌<◌, ◌≤◌, ◌==◌, true, false, List, [], ◌∷◌, length, if◌then◌else◌, refl, ap, ap₂, sym, ◌∙◌, Option, Some, arith}
-use Rattle.std.specs.Prelude.{map, option_map, unwrap_or}
-use Rattle.std.proofs.lemmas.Bool.{eq-eqb, eqb-true}
-use Rattle.std.proofs.lemmas.Bool.Decides.{nat_tests}
-use Rattle.std.proofs.lemmas.List.{length-map}
-use Rattle.uv_slots.specs.Arranged.{times, IsOrder, place_in, place_of}
+use Rattle.uv_find.proofs.Names.{◌≡◌, ℕ, zero, suc, ◌+◌, ◌<◌, ◌≤◌, ◌==◌, true, false, List, [], ◌∷◌, length, if◌then◌else◌, refl, ap, ap₂, sym, ◌∙◌, Option, Some, arith, map, option_map, unwrap_or, eq-eqb, eqb-true, nat_tests, length-map, times, IsOrder, place_in, place_of}
 
 abbrev pub swap : ℕ → List ℕ
 swap zero = 1 ∷ 0 ∷ []

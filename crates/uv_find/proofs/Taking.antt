@@ -1,22 +1,9 @@
 -- A move that is made, and taken back.
-use Rattle.std.proofs.Common.{◌≡◌, ℕ, suc, ◌+◌, ◌-◌, ◌<◌, List, [], ◌∷◌, ◌++◌, length, take, reverse, Option, Some, Ok, arith, length-append, length-take}
-use Rattle.std.proofs.lemmas.Grind.{common_steps}
-use Rattle.std.proofs.lemmas.List.{reverse-append}
-use Rattle.uv_ids.specs.declared.event.Event.{Event}
-use Rattle.uv_ids.specs.declared.seen.Seen.{Seen}
-use Rattle.uv_model.specs.declared.machine.Outcome.{Outcome}
-use Rattle.uv_model.specs.After.{after, STEPS}
-use Rattle.uv_script.specs.Program.{Program}
-use Rattle.uv_session.specs.Shown.{Shown}
-use Rattle.uv_find.specs.declared.orders.Made.{Made}
-use Rattle.uv_find.specs.declared.kept.Kept.{Kept}
-use Rattle.uv_find.specs.declared.left.Left.{Left}
+use Rattle.uv_find.proofs.Names.{◌≡◌, ℕ, suc, ◌+◌, ◌-◌, ◌<◌, List, [], ◌∷◌, ◌++◌, length, take, reverse, Option, Some, Ok, arith, length-append, length-take, common_steps, reverse-append, Event, Seen, Outcome, STEPS, Program, Made, Kept, Left, kept_after, Rules, Choice, taken, AreBrief, IsSearched, searched, spots_before, left_before, rules_by, place_by, Stands, Makes, state_in, Shown}
+use Rattle.uv_model.specs.After.{after}
 use Rattle.uv_find.specs.declared.terms.Terms.{Terms}
-use Rattle.uv_find.specs.Kept.{kept_after}
-use Rattle.uv_find.specs.Orders.{Rules, Choice, taken}
 use Rattle.uv_find.proofs.Led.{brief_more, choice_brief}
-use Rattle.uv_find.specs.Spots.{AreBrief, IsSearched, searched, spots_before, left_before, rules_by, place_by}
-use Rattle.uv_find.specs.Steps.{Stands, Takes, Makes, state_in}
+use Rattle.uv_find.specs.Steps.{Takes}
 
 last_taken : (es : List Event) (e : Event) → take (length (es ++ e ∷ []) - 1) (es ++ e ∷ []) ≡ es
 last_taken es e = grind (arith, common_steps)

@@ -1,14 +1,8 @@
 -- The key of a place tells all of it that decides what comes after.
-use Rattle.std.proofs.Common.{◌≡◌, ℕ, List, [], ◌∷◌, ◌++◌, length, refl, sym, ap, ap₂, subst, ◌∙◌, append_assoc, arith}
-use Rattle.uv_key.specs.Codes.{number_code}
-use Rattle.uv_key.proofs.Telling.{numbers_tell}
+use Rattle.uv_find.proofs.Names.{◌≡◌, ℕ, List, [], ◌∷◌, ◌++◌, length, refl, sym, ap, ap₂, subst, ◌∙◌, append_assoc, arith, Rules, Along, Left, Spot, told, kind_code, event_code, each_code, left_code, along_code, kept_code, spot_code, IsSpot, number_code, numbers_tell}
 use Rattle.uv_state_key.specs.Told.{IsTold}
 use Rattle.uv_state_key.proofs.States.{after_told}
 use Rattle.uv_state_key.proofs.FormsTell.{forms_tell}
-use Rattle.uv_find.specs.Orders.{Rules}
-use Rattle.uv_find.specs.declared.kept.Along.{Along}
-use Rattle.uv_find.specs.declared.left.Left.{Left}
-use Rattle.uv_find.specs.Spots.{Spot, told, kind_code, event_code, each_code, left_code, along_code, kept_code, spot_code, IsSpot}
 
 kinds_tell : (a b : Left) (x y : List ℕ) → kind_code a ≡ kind_code b → event_code a ++ x ≡ event_code b ++ y → (a ≡ b) × (x ≡ y)
 kinds_tell a b x y e same = grind (arith, numbers_tell)

@@ -1,39 +1,10 @@
 -- What is offered where one name and the next one have changed places: the same events, those of workers by other ranks.
-use Rattle.std.proofs.Common.{◌≡◌, ℕ, zero, suc, ◌+◌, ◌-◌, ◌≤◌, ◌&&◌, not, Bool, true, false, List, [], ◌∷◌, length, drop, slice_get, is_some, if◌then◌else◌, refl, ap, ap₂, sym, subst, ◌∙◌, Option, Some, None, arith}
-use Rattle.std.specs.Prelude.{map, option_map}
-use Rattle.std.specs.List.{list_all}
-use Rattle.std.proofs.lemmas.Bool.{and_parts}
-use Rattle.uv_ids.specs.declared.event.Event.{Event}
-use Rattle.uv_ids.specs.declared.event.Event.TheVariants.{Loop, Take, Finish, Cancel, Send, Io, Tick}
-use Rattle.uv_ids.specs.declared.id.Id.{Id}
-use Rattle.uv_ids.specs.declared.id.Var.{Var}
-use Rattle.uv_ids.specs.declared.seen.Callback.{Callback}
-use Rattle.uv_script.specs.declared.op.Op.{Op}
-use Rattle.uv_script.specs.declared.op.MainOp.{MainOp}
-use Rattle.uv_script.specs.Program.{Program, lines_in}
-use Rattle.uv_records.specs.declared.named.Named.{Named}
-use Rattle.uv_records.specs.Slots.{held}
-use Rattle.uv_work.specs.declared.content.Content.{Content}
+use Rattle.uv_find.proofs.Names.{◌≡◌, ℕ, zero, suc, ◌+◌, ◌-◌, ◌≤◌, ◌&&◌, not, Bool, true, false, List, [], ◌∷◌, length, drop, slice_get, is_some, if◌then◌else◌, refl, ap, ap₂, sym, subst, ◌∙◌, Option, Some, None, arith, map, option_map, list_all, and_parts, Event, Loop, Take, Finish, Cancel, Send, Io, Tick, Id, Var, Callback, Op, MainOp, Program, lines_in, Named, held, Content, line_of, Next, Moves, Refuses, State, named, Main, changed_callback, changed_event, changed_main, changed_op, changed_place, moved_var, moved_content, by_names, Offer, Offered, Kept, Left, owes, offer_spares, main_spares, is_beside, spares, of_main, Rules, aim, is_made, is_free, spending, step_of, is_blocked, refused_as_blocked, deadline_at, wait_until, take_by, may_last, ends_within, is_in_poll, wait_for, is_quiet, is_closing, closes, event_of, timed, brief, offered_by, may_take, idle_worker, ranked, AreMates}
 use Rattle.uv_work.specs.declared.content.Content.TheVariants as content
-use Rattle.uv_model.specs.Bounds.{line_of}
-use Rattle.uv_model.specs.Next.{Next, Moves, Refuses, next}
-use Rattle.uv_model.specs.State.{State, named}
+use Rattle.uv_model.specs.Next.{next}
 use Rattle.uv_model.specs.declared.place.Place as loop
-use Rattle.uv_model.specs.declared.place.Place.TheVariants.{Main}
-use Rattle.uv_alike.specs.Changed.{changed_callback, changed_event, changed_main, changed_op, changed_place}
 use Rattle.uv_slots.specs.Alike as slots
-use Rattle.uv_slots.specs.Alike.{moved_var, moved_content, by_names}
-use Rattle.uv_asking.specs.declared.asking.Offer.{Offer}
 use Rattle.uv_asking.specs.declared.asking.Offer.TheVariants as offers
-use Rattle.uv_asking.specs.declared.asking.Offered.{Offered}
-use Rattle.uv_find.specs.declared.kept.Kept.{Kept}
-use Rattle.uv_find.specs.declared.left.Left.{Left}
-use Rattle.uv_find.specs.Kept.{owes}
-use Rattle.uv_find.specs.Mates.{offer_spares, main_spares}
-use Rattle.uv_find.specs.Ops.{is_beside, spares, of_main}
-use Rattle.uv_find.specs.Orders.{Rules, aim, is_made, is_free, spending, step_of, is_blocked, refused_as_blocked, deadline_at, wait_until, take_by, may_last, ends_within, is_in_poll, wait_for, is_quiet, is_closing, closes, event_of, timed, brief, offered_by, may_take}
-use Rattle.uv_find.specs.Ranks.{idle_worker, ranked}
-use Rattle.uv_find.specs.Spots.{AreMates}
 use Rattle.uv_find.proofs.Equal.{lines_turned}
 use Rattle.uv_find.proofs.Swap.{swap, swap_length, swap_order}
 use Rattle.uv_find.proofs.Mirrored.{NamesChange, mirrored, mirrored_next, next_mirrored, held_mirrored, named_same}

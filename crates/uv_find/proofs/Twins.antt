@@ -1,51 +1,11 @@
 -- Where workers run two requests that are alike, the same is told of the state as of that in which their names have changed places.
-use Rattle.std.proofs.Common.{◌≡◌, ℕ, zero, suc, ◌+◌, ◌<◌, ◌≤◌, ◌==◌, ◌||◌, Bool, true, false, List, [], ◌∷◌, ◌++◌, length, slice_get, refl, ap, ap₂, sym, subst, ◌∙◌, Option, Some, None, arith}
-use Rattle.std.specs.Prelude.{map, min, option_map, unwrap_or}
-use Rattle.std.proofs.lemmas.Bool.{or_right}
-use Rattle.std.proofs.lemmas.List.{length-map}
-use Rattle.std.proofs.lemmas.Option.{none-some, same_Some, slice_get-map}
-use Rattle.uv_ids.specs.declared.id.Id.{Id}
-use Rattle.uv_ids.specs.declared.id.Var.{Var}
-use Rattle.uv_script.specs.Program.{Program}
-use Rattle.uv_records.specs.declared.handle.HandleRecord.{HandleRecord}
-use Rattle.uv_records.specs.declared.lists.WatcherKind.{WatcherKind}
+use Rattle.uv_find.proofs.Names.{◌≡◌, ℕ, zero, suc, ◌+◌, ◌<◌, ◌≤◌, ◌==◌, ◌||◌, Bool, true, false, List, [], ◌∷◌, ◌++◌, length, slice_get, refl, ap, ap₂, sym, subst, ◌∙◌, Option, Some, None, arith, map, min, option_map, unwrap_or, or_right, length-map, none-some, same_Some, slice_get-map, Id, Var, Program, HandleRecord, WatcherKind, Named, Slot, held, Walk, Content, Request, handle_in, request_in, Body, Stage, State, named, handle, request, watched, has_id, AreDistinct, run_ids, IsReached, By, base, earlier, or_first, or_over, least_start, retimed_place, capped_calls, capped_place, changed_body, changed_place, changed_stage, moved_var, moved_content, moved_slot, by_names, place_of, name_in, Fits, get_arranged, with_run, ordered, swapped, has_at, IsRegular, Told, as_id, bound_by, bound_to, name_at, names_at, number_of, numbers_at, runs_at, tale, tale_by, told_name, walk_at, is_beside, body_spares, place_spares, Open, is_open, same_id}
 use Rattle.uv_records.specs.declared.lists.WatcherKind.TheVariants as watcher
 use Rattle.uv_records.specs.Names as names
-use Rattle.uv_records.specs.declared.named.Named.{Named}
-use Rattle.uv_records.specs.declared.slot.Slot.{Slot}
-use Rattle.uv_records.specs.Slots.{held}
-use Rattle.uv_records.specs.Walks.{Walk}
-use Rattle.uv_work.specs.declared.content.Content.{Content}
 use Rattle.uv_work.specs.declared.content.Content.TheVariants as content
 use Rattle.uv_work.specs.declared.outcome.Outcome.{Outcome}
-use Rattle.uv_work.specs.declared.outcome.Outcome.TheVariants.{Open}
-use Rattle.uv_work.specs.declared.request.Request.{Request}
-use Rattle.uv_work.specs.Requests.{is_open}
-use Rattle.uv_model.specs.Content.{handle_in, request_in}
-use Rattle.uv_model.specs.declared.place.Body.{Body}
 use Rattle.uv_model.specs.declared.place.Place.{Place}
-use Rattle.uv_model.specs.declared.place.Stage.{Stage}
-use Rattle.uv_model.specs.Ids.{same_id}
-use Rattle.uv_model.specs.State.{State, named, handle, request, watched}
-use Rattle.uv_order.specs.Active.{has_id, AreDistinct, run_ids}
-use Rattle.uv_order.specs.Reached.{IsReached}
 use Rattle.uv_order.proofs.IdLists as ids
-use Rattle.uv_shift.specs.Shift.{By}
-use Rattle.uv_shift.specs.Earliest.{base, earlier, or_first, or_over, least_start}
-use Rattle.uv_shift.specs.Retimed.{retimed_place}
-use Rattle.uv_names.specs.Counts.{capped_calls, capped_place}
-use Rattle.uv_alike.specs.Changed.{changed_body, changed_place, changed_stage}
-use Rattle.uv_slots.specs.Alike.{moved_var, moved_content, moved_slot, by_names}
-use Rattle.uv_slots.specs.Arranged.{place_of}
-use Rattle.uv_alike.specs.Contents.{name_in}
-use Rattle.uv_slots.proofs.Orders.{Fits, get_arranged}
-use Rattle.uv_workers.specs.Workers.{with_run, ordered}
-use Rattle.uv_workers.proofs.Runs.{swapped}
-use Rattle.uv_tale.proofs.Given.{has_at}
-use Rattle.uv_tale.specs.Alike.{IsRegular}
-use Rattle.uv_tale.specs.Tale.{Told, as_id, bound_by, bound_to, name_at, names_at, number_of, numbers_at, runs_at, tale, tale_by, told_name, walk_at}
-use Rattle.uv_find.specs.Ops.{is_beside}
-use Rattle.uv_find.specs.Mates.{body_spares, place_spares}
 use Rattle.uv_find.proofs.Ranking.{Run}
 use Rattle.uv_find.proofs.Swap.{swap, is_equal, differs, swap_length, swap_order, first_goes, second_goes, other_stays, twice_stays}
 use Rattle.uv_find.proofs.Mirrored.{mirrored, held_mirrored}

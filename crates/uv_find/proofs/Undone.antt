@@ -1,6 +1,5 @@
 -- An offer that may be taken once less, and once more again.
-use Rattle.std.proofs.Common.{arith, ◌≡◌, ℕ, zero, suc, ◌≤◌, List, [], ◌∷◌, length, get_or, slice_set, refl, ap}
-use Rattle.uv_find.specs.declared.left.Left.{Left}
+use Rattle.uv_find.proofs.Names.{arith, ◌≡◌, ℕ, zero, suc, ◌≤◌, List, [], ◌∷◌, length, get_or, slice_set, refl, ap, Left}
 
 pub set_twice : (xs : List Left) (number : ℕ) (x y : Left) → slice_set (slice_set xs number y) number x ≡ slice_set xs number x
 set_twice [] number x y = refl

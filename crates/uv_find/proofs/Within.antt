@@ -1,21 +1,9 @@
 -- Each move of an order near a recording is an offer of every order.
-use Rattle.std.proofs.Common.{◌≡◌, ℕ, ◌-◌, ◌==◌, ◌&&◌, not, Bool, true, false, List, length, nat_le, nat_lt, slice_get, refl, sym, ap, ap₂, subst, ◌∙◌, Option, Some, None, inl, inr, if◌then◌else◌}
-use Rattle.std.specs.Prelude.{option_map}
-use Rattle.std.proofs.lemmas.Option.{same_Some, none-some}
-use Rattle.uv_ids.specs.declared.event.Event.{Event}
+use Rattle.uv_find.proofs.Names.{◌≡◌, ℕ, ◌-◌, ◌==◌, ◌&&◌, not, Bool, true, false, List, length, nat_le, nat_lt, slice_get, refl, sym, ap, ap₂, subst, ◌∙◌, Option, Some, None, inl, inr, if◌then◌else◌, option_map, same_Some, none-some, Event, State, named, Offer, Step, SendDuring, Wait, WaitFor, Offered, Recorded, Kept, Left, owes, with_spare, Rules, Place, Choice, aim, is_made, is_seen, is_free, is_clear, spending, step_of, is_run, take_by, deadline_at, wait_until, wait_for, event_of, keeps_clock, timed, offered_here, offered_by, brief, chosen, lessened, move_count, waited_for, came, comes_by, comes, waiting, waits_or_goes, with_kept, going, past, go_on_by, go_on, is_due, come_by, come_in_place, in_place_of, in_place, spent, free_of, elsewhere_by, elsewhere_with, elsewhere_of, elsewhere, recorded_at, choice_by, IsOffered, idle_worker, ranked}
 use Rattle.uv_ids.specs.declared.event.Event.TheVariants as event
-use Rattle.uv_model.specs.State.{State, named}
-use Rattle.uv_asking.specs.declared.asking.Offer.{Offer}
-use Rattle.uv_asking.specs.declared.asking.Offer.TheVariants.{Step, SendDuring, Take, Wait, WaitFor}
-use Rattle.uv_asking.specs.declared.asking.Offered.{Offered}
-use Rattle.uv_asking.specs.declared.asking.Recorded.{Recorded}
-use Rattle.uv_find.specs.declared.kept.Kept.{Kept}
-use Rattle.uv_find.specs.declared.left.Left.{Left}
+use Rattle.uv_asking.specs.declared.asking.Offer.TheVariants.{Take}
 use Rattle.uv_find.specs.declared.left.Left.TheVariants as left
-use Rattle.uv_find.specs.Kept.{owes, with_spare}
-use Rattle.uv_find.specs.Orders.{Rules, Place, Choice, aim, is_made, is_seen, is_free, is_clear, spending, step_of, is_run, take_by, deadline_at, wait_until, wait_for, event_of, keeps_clock, timed, offered_here, offered_by, brief, chosen, lessened, move_count, waited_for, came, comes_by, comes, waiting, waits_or_goes, with_kept, going, past, go_on_by, go_on, is_due, come_by, come_in_place, in_place_of, in_place, spent, free_of, elsewhere_by, elsewhere_with, elsewhere_of, elsewhere, recorded_at, choice_by, choice_at}
-use Rattle.uv_find.specs.Courses.{IsOffered}
-use Rattle.uv_find.specs.Ranks.{idle_worker, ranked}
+use Rattle.uv_find.specs.Orders.{choice_at}
 use Rattle.uv_find.specs.Within.{every_order, MayTake, offer_by, wait_by, offer_of, IsNext, Brings, IsCommon, CameFromOutside, NearIsWithin}
 use Rattle.uv_find.proofs.Led.{choice_is}
 use Rattle.uv_find.proofs.Meeting.{get_within, loop_timed}

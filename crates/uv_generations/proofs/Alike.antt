@@ -1,13 +1,6 @@
 -- A step of a state is that of its youngest form, freed more often.
-use Rattle.uv_alike.proofs.Names.{◌≡◌, ℕ, List, [], ◌∷◌, length, refl, ap, sym, ◌∙◌, arith, Event, Slot, Content, Program, State, held}
-use Rattle.std.proofs.Common.{suc}
-use Rattle.std.proofs.lemmas.Option.{slice_get_past}
-use Rattle.std.specs.Prelude.{◌≤◌}
-use Rattle.uv_model.specs.Next.{next}
+use Rattle.uv_generations.proofs.Names.{◌≡◌, ℕ, List, [], ◌∷◌, length, refl, ap, sym, ◌∙◌, arith, Event, Slot, Content, Program, State, held, suc, ◌≤◌, next, Renaming, more_next, CanRename, freed_less, least_of, surplus, youngest, IsYoung, slice_get_past}
 use Rattle.uv_generations.specs.Renamed as any
-use Rattle.uv_generations.specs.Renamed.{Renaming}
-use Rattle.uv_generations.specs.More.{more_next, CanRename}
-use Rattle.uv_generations.specs.Youngest.{freed_less, least_of, surplus, youngest, IsYoung}
 use Rattle.uv_generations.proofs.More.{rename}
 use Rattle.uv_generations.proofs.Slots.{held_renamed}
 use Rattle.uv_generations.proofs.Slots.{next_renamed}

@@ -1,12 +1,7 @@
 -- The youngest form of a state, and that of the state once its slots were freed more often.
-use Rattle.uv_alike.proofs.Names.{◌≡◌, ℕ, zero, suc, ◌+◌, List, [], ◌∷◌, Option, Some, None, slice_get, option_and_then, refl, ap, ◌∙◌, arith, Id, Slot, Content, Named, State, Program, held_in}
-use Rattle.std.specs.Prelude.{map, option_map, ◌-◌, ◌≤◌}
-use Rattle.uv_order.specs.Active.{run_ids}
+use Rattle.uv_generations.proofs.Names.{◌≡◌, ℕ, zero, suc, ◌+◌, List, [], ◌∷◌, Option, Some, None, slice_get, option_and_then, refl, ap, ◌∙◌, arith, Id, Slot, Content, Named, State, Program, held_in, map, option_map, ◌-◌, ◌≤◌, run_ids, Renaming, renamed, Frees, freed_more, more, freed_less, least_bound, least_of, surplus, youngest, IsInSlot, IsYoung}
 use Rattle.uv_records.specs.declared.lists.WatcherKind.TheVariants as watcher
 use Rattle.uv_generations.specs.Renamed as any
-use Rattle.uv_generations.specs.Renamed.{Renaming, renamed}
-use Rattle.uv_generations.specs.More.{Frees, freed_more, more}
-use Rattle.uv_generations.specs.Youngest.{freed_less, least_bound, least_of, surplus, youngest, IsInSlot, IsYoung}
 use Rattle.uv_generations.proofs.More.{renamed_named}
 use Rattle.uv_generations.proofs.Slots.{get_renamed}
 use Rattle.uv_generations.proofs.Twice.{both, twice, has_front, has_behind, ids_same, walk_same, running_same, timers_same, slots_same}

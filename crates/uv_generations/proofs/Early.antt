@@ -1,19 +1,10 @@
 -- The earliest form of a young state is young.
-use Rattle.std.proofs.Common.{◌≡◌, ◌+◌, Option, Some, refl, ap, sym, subst, ◌∙◌, arith}
-use Rattle.std.specs.Prelude.{option_map}
-use Rattle.uv_ids.specs.declared.id.Id.{Id}
-use Rattle.uv_script.specs.Program.{Program}
-use Rattle.uv_records.specs.Slots.{held}
-use Rattle.uv_work.specs.declared.content.Content.{Content}
-use Rattle.uv_model.specs.State.{State}
-use Rattle.uv_shift.specs.Retimed.{retimed_content}
-use Rattle.uv_shift.specs.Shift.{By, later, shift}
+use Rattle.uv_generations.proofs.Names.{◌≡◌, ◌+◌, Option, Some, refl, ap, sym, subst, ◌∙◌, arith, option_map, Id, Program, held, Content, State, IsInSlot, IsYoung, retimed_content, By, later, shift, earliest, earlier, or_over, or_first, least_start, IsTimed}
 use Rattle.uv_shift.specs.Earliest as early
-use Rattle.uv_shift.specs.Earliest.{earliest, earlier, or_over, or_first, least_start, untimed_line, IsTimed}
+use Rattle.uv_shift.specs.Earliest.{untimed_line}
 use Rattle.uv_shift.proofs.Slots.{held_shift}
 use Rattle.uv_shift.proofs.Base.{earliest_later}
 use Rattle.uv_shift.proofs.Timed.{has_later}
-use Rattle.uv_generations.specs.Youngest.{IsInSlot, IsYoung}
 
 held_earlier : (d : By) (s : State) (id : Id) → IsInSlot (shift d s) id → IsInSlot s id
 held_earlier d s id k = by (held s.arena.slots id) refl (sym (held_shift d s.arena.slots id) ∙ k.holds) where

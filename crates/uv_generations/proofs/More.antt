@@ -1,14 +1,6 @@
 -- The parts of a state whose slots were freed more often.
-use Rattle.std.proofs.Common.{List}
-use Rattle.uv_ids.specs.declared.id.Id.{Id}
-use Rattle.uv_records.specs.declared.named.Named.{Named}
-use Rattle.uv_records.specs.declared.slot.Slot.{Slot}
-use Rattle.uv_records.specs.Slots.{Slots}
-use Rattle.uv_work.specs.declared.content.Content.{Content}
-use Rattle.uv_model.specs.State.{State}
-use Rattle.uv_model.specs.Next.{Next}
+use Rattle.uv_generations.proofs.Names.{List, Id, Named, Slot, Slots, Content, State, Next, Frees, freed_more}
 use Rattle.uv_generations.specs.Renamed as any
-use Rattle.uv_generations.specs.More.{Frees, freed_more}
 
 abbrev pub rename : Frees → Id → Id
 rename k x = any.rename (freed_more k) x

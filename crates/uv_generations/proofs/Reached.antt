@@ -1,15 +1,9 @@
 -- Who stands on a list of a state that steps lead to is held, and no slot is at its last generation after few steps.
-use Rattle.uv_alike.proofs.Names.{◌≡◌, ℕ, ◌+◌, ◌<◌, List, [], ◌∷◌, length, Some, arith, Id, Event, HandleRecord, Content, Request, Program, State, handle, request, held, arena_size, slice_get}
-use Rattle.uv_generations.proofs.Names.{add-zero, Next, fresh, goes_on, state_of}
-use Rattle.std.proofs.Common.{suc, subst}
-use Rattle.std.proofs.lemmas.Grind.{elements}
-use Rattle.std.specs.Prelude.{◌≤◌}
+use Rattle.uv_generations.proofs.Names.{◌≡◌, ℕ, ◌+◌, ◌<◌, List, [], ◌∷◌, length, Some, arith, Id, Event, Content, Program, State, handle, request, held, arena_size, slice_get, add-zero, Next, fresh, goes_on, state_of, suc, subst, ◌≤◌, next, IsInSlot, IsYoung, HandleRecord, Request, elements}
 use Rattle.uv_model.specs.After.{after}
-use Rattle.uv_model.specs.Next.{next}
 use Rattle.uv_model.proofs.Bounded.{next_bounded}
 use Rattle.uv_model.proofs.Counting.{Freed, IsBounded, StaysBounded, slot_freed}
 use Rattle.uv_order.proofs.Reaching.{reached}
-use Rattle.uv_generations.specs.Youngest.{IsInSlot, IsYoung}
 use Rattle.uv_generations.proofs.Base.{slot_of}
 
 -- ---- how often slots were freed

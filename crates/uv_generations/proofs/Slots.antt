@@ -1,11 +1,7 @@
 -- The slots of a state that is renamed, and what its ids hold: they are named anew, so the loop goes on alike.
-use Rattle.uv_alike.proofs.Names.{◌≡◌, ℕ, suc, ◌+◌, ◌<◌, List, [], ◌∷◌, ◌++◌, length, Bool, Option, Some, None, refl, ap, ◌∙◌, arith, option_and_then, slice_get, slice_set, list_any, Id, Event, Slot, Content, State, Program, held, held_in, Slots, next_id, taken_from, freed, same_id}
-use Rattle.std.specs.Prelude.{◌||◌, option_map}
-use Rattle.std.proofs.lemmas.List.{length-set}
-use Rattle.uv_model.specs.Next.{next}
+use Rattle.uv_generations.proofs.Names.{◌≡◌, ℕ, suc, ◌+◌, ◌<◌, List, [], ◌∷◌, ◌++◌, length, Bool, Option, Some, None, refl, ap, ◌∙◌, arith, option_and_then, slice_get, slice_set, Id, Event, Slot, Content, State, Program, held, held_in, Slots, next_id, taken_from, freed, ◌||◌, option_map, next, Frees, CanRename, list_any, same_id, length-set}
 use Rattle.uv_slots.proofs.Relabel.{Relabel}
 use Rattle.uv_slots.proofs.Relabeling.{next_relabeled}
-use Rattle.uv_generations.specs.More.{Frees, CanRename}
 use Rattle.uv_generations.proofs.More.{rename, renamed, renamed_slots, renamed_arena, renamed_next}
 
 -- ---- slots

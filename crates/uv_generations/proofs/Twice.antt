@@ -1,10 +1,5 @@
 -- What becomes of a state that is renamed twice, and where no id becomes another.
-use Rattle.uv_alike.proofs.Names.{◌≡◌, ℕ, suc, List, [], ◌∷◌, ◌++◌, true, Option, Some, None, slice_get, refl, ap, ap₂, Id, Due, Slot, Content, Named, State}
-use Rattle.uv_generations.proofs.Names.{Walk}
-use Rattle.std.proofs.Common.{arith, inl, inr}
-use Rattle.std.specs.Prelude.{map, option_map}
-use Rattle.uv_order.specs.Active.{has_id, run_ids, Has}
-use Rattle.uv_generations.specs.Renamed.{Renaming, rename, renamed_walk, renamed_named, renamed_slots, renamed_entry, renamed}
+use Rattle.uv_generations.proofs.Names.{◌≡◌, ℕ, suc, List, [], ◌∷◌, ◌++◌, true, Option, Some, None, slice_get, refl, ap, ap₂, Id, Slot, Content, Named, State, Walk, arith, inl, inr, map, option_map, has_id, run_ids, Has, Renaming, rename, renamed_walk, renamed_named, renamed_slots, renamed_entry, renamed, Due}
 
 -- ---- twice
 

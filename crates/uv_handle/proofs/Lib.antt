@@ -1,5 +1,5 @@
 pub mod Changed
 pub mod Closed
 pub mod Counts
-mod Names
+pub mod Names
 pub mod Walked

@@ -1,17 +1,9 @@
 -- The front of those yet to run is moved to the end of its list.
-use Rattle.std.proofs.Common.{◌≡◌, ◌≢◌, ℕ, Bool, [], ◌∷◌, ◌++◌, Option, option_and_then, sym, ap, ◌∙◌, subst}
-use Rattle.uv_ids.specs.declared.id.Id.{Id}
-use Rattle.uv_records.specs.declared.handle.HandleRecord.{HandleRecord}
+use Rattle.uv_handle.proofs.Names.{◌≡◌, ◌≢◌, ℕ, Bool, [], ◌∷◌, ◌++◌, Option, option_and_then, sym, ap, ◌∙◌, subst, Id, HandleRecord, woken, Image, rotate_undone, CanUndoRotate, IsFirst, IsRotated, RecordUndo, Counted, counted, record_at}
 use Rattle.uv_records.specs.declared.lists.WatcherKind.{WatcherKind}
 use Rattle.uv_records.specs.declared.lists.WatcherKind.TheVariants as watcher
-use Rattle.uv_records.specs.Handles.{woken}
 use Rattle.uv_records.specs.Lists.{list_of, yet_of}
 use Rattle.uv_records.specs.Slots as plain
-use Rattle.uv_arena.specs.Image.{Image}
-use Rattle.uv_arena.specs.Undo.{rotate_undone, CanUndoRotate}
-use Rattle.uv_arena.specs.Calls.{IsFirst, IsRotated}
-use Rattle.uv_handle.specs.declared.undo.RecordUndo.{RecordUndo}
-use Rattle.uv_handle.specs.Counted.{Counted, counted, record_at}
 use Rattle.uv_handle.specs.Watch.{pending_of, woken_if, IsWoken, IsMovedOn}
 
 -- the two lists of a walk are two

@@ -1,7 +1,7 @@
 pub mod HeapOrder
 pub mod Lists
 pub mod MoveLemmas
-mod Names
+pub mod Names
 pub mod OrderLemmas
 pub mod PlaceLemmas
 pub mod Ranks

@@ -1,11 +1,5 @@
 -- The line `begin` cuts an input.
-use Rattle.std.proofs.Common.{◌≡◌, ◌≢◌, ℕ, ◌+◌, ◌-◌, ◌≤◌, List, [], ◌∷◌, ◌++◌, Bool, length, take, refl, ap, sym, ◌∙◌, subst, arith, codes}
-use Rattle.std.proofs.lemmas.List.{length-append}
-use Rattle.std.proofs.Math.Seq.{take-append_seam}
-use Rattle.uv_engine.specs.Input.{TakesLine}
-use Rattle.uv_engine.specs.Out.{Begins, NeverBegins, here, here_at_end, later}
-use Rattle.uv_engine.specs.Start.{with_line}
-use Rattle.uv_engine.proofs.Starting.{CanBegin, can_start, can_go_on, front_begun, front_missing}
+use Rattle.uv_inquiry.proofs.Names.{◌≡◌, ◌≢◌, ℕ, ◌+◌, ◌-◌, ◌≤◌, List, [], ◌∷◌, ◌++◌, Bool, length, take, refl, ap, sym, ◌∙◌, subst, arith, codes, length-append, TakesLine, Begins, NeverBegins, here, here_at_end, later, with_line, CanBegin, can_start, can_go_on, front_begun, front_missing, take-append_seam}
 
 -- no line up to the rest is `begin`
 pub record Reached (input rest : List ℕ) : Type 0 where
@@ -32,10 +26,5 @@ reached_end h e = (front_missing h.can e).0
 
 -- what the line leaves is shorter than the input
 pub parts_few : {input script lines : List ℕ} → Begins input script lines → length script + length lines + 5 ≤ length input
-parts_few (here {commands = c}) = let all = length-append (codes "begin\n") c in omega arith
-parts_few here_at_end = omega arith
-parts_few (later {line = line} {rest = rest} {script = script} {commands = c} free other k) =
-    let shorter = parts_few k in
-    let all = length-append line (10 ∷ rest) in
-    let front = length-append line (10 ∷ script) in
-    omega arith
+parts_few (later {line = line} {rest = rest} {script = script} {commands = c} free other k) = grind (arith, length-append, (parts_few k))
+parts_few each = grind arith

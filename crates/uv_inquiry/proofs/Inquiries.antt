@@ -1,27 +1,13 @@
 -- A whole input.
-use Rattle.std.proofs.Common.{◌≡◌, ℕ, ◌+◌, List, length, Option, Some, None, option_map, Err, refl, sym, subst, arith}
-use Rattle.uv_ids.specs.declared.fault.Fault.{Fault}
+use Rattle.uv_inquiry.proofs.Names.{◌≡◌, ℕ, ◌+◌, List, length, Option, Some, None, option_map, Err, refl, sym, subst, arith, Fault, lines_of, Program, IsScript, ParsesFrom, unread, Begins, NeverBegins, NoScript, Question, Draft, unsaid, asked_by, finished, ReadsAll, no_question, IsBadInput, no_begin, in_script, behind, Parses, IsBadBehind, ReadsAsking}
 use Rattle.uv_ids.specs.declared.fault.Fault.TheVariants as fault
-use Rattle.uv_script.specs.Lines.{lines_of}
-use Rattle.uv_script.specs.Program.{Program}
-use Rattle.uv_script.specs.Grammar.{IsScript, ParsesFrom, unread}
-use Rattle.uv_engine.specs.Out.{Begins, NeverBegins}
-use Rattle.uv_engine.specs.Start.{NoScript}
-use Rattle.uv_asking.specs.declared.asking.Question.{Question}
-use Rattle.uv_inquiry.specs.Drafts.{Draft, unsaid, asked_by, finished}
-use Rattle.uv_inquiry.specs.Grammar.{ReadsAll, no_question, IsBadInput, no_begin, in_script, behind, Parses}
-use Rattle.uv_inquiry.specs.Tests.{IsBadBehind, ReadsAsking}
-
-no_question_said : {A : Type 0} (f : Question → A) (o : Option Question) → option_map f o ≡ None → o ≡ None
-no_question_said f None e = refl
-no_question_said f (Some q) e = cc
 
 -- no line asks
 pub not_asked : (names : List (List ℕ)) (text : List ℕ) (before line : ℕ) (d : Draft) → ReadsAll names unsaid (lines_of text) d →
     None ≡ finished d → line ≡ before + length (lines_of text) + 1 → IsBadBehind names text before line
 not_asked names text before line d read e count = record {
   number = length (lines_of text) + 1;
-  bad = no_question d read (no_question_said (asked_by d) d.question (sym e));
+  bad = no_question d read (grind arith);
   counted = omega (arith, count);
 }
 

@@ -1,3 +1,4 @@
+mod Names
 pub mod Steps
 pub mod Lines
 pub mod Cuts

@@ -1,17 +1,10 @@
 -- One more line, and all lines.
-use Rattle.std.proofs.Common.{◌≡◌, ℕ, ◌+◌, Bool, cond, List, [], ◌∷◌, ◌++◌, length, map, Some, None, Err, refl, ap, sym, subst, ◌∙◌, arith, append-nil}
-use Rattle.std.proofs.lemmas.List.{map-append, length-map}
-use Rattle.std.proofs.lemmas.Option.{same_Some, cond_some, none-some}
-use Rattle.uv_ids.specs.declared.fault.Fault.{Fault}
+use Rattle.uv_inquiry.proofs.Names.{◌≡◌, ℕ, ◌+◌, Bool, cond, List, [], ◌∷◌, ◌++◌, length, map, Some, None, Err, refl, ap, sym, subst, ◌∙◌, arith, append-nil, map-append, length-map, same_Some, cond_some, none-some, Fault, lines_of, Draft, unsaid, with_part, Reads, skips, says, ReadsAll, none, one, is_new, after_said, after_line, ReadsLine, ReadsLines, IsBadBehind, said_of}
 use Rattle.uv_ids.specs.declared.fault.Fault.TheVariants as fault
-use Rattle.uv_script.specs.Lines.{lines_of}
 use Rattle.uv_asking.specs.declared.part.Said.{Said}
 use Rattle.uv_asking.specs.declared.part.Said.TheVariants.{Nothing, One, Bad}
-use Rattle.uv_asking.specs.Tests.{said_of}
 use Rattle.uv_asking.proofs.Agreement.{says_read, says_only}
-use Rattle.uv_inquiry.specs.Drafts.{Draft, unsaid, with_part}
-use Rattle.uv_inquiry.specs.Grammar.{Reads, skips, says, ReadsAll, none, one, at_line}
-use Rattle.uv_inquiry.specs.Tests.{is_new, after_said, after_line, ReadsLine, ReadsLines, IsBadBehind}
+use Rattle.uv_inquiry.specs.Grammar.{at_line}
 use Rattle.uv_inquiry.proofs.Steps.{new_sound, new_complete}
 
 after_sound_by : (names : List (List ℕ)) (d e : Draft) (line : List ℕ) (said : Said) → said ≡ said_of names line → after_said d said ≡ Some e →
@@ -28,9 +21,7 @@ after_sound names d e line same = after_sound_by names d e line (said_of names l
 pub after_complete : (names : List (List ℕ)) (d e : Draft) (line : List ℕ) → Reads names d line e →
     after_line names d line ≡ Some e
 after_complete names d e line (skips h) = ap (after_said d) (sym (says_only names line Nothing h))
-after_complete names d e line (says part h new) =
-    ap (after_said d) (sym (says_only names line (One part) h))
-    ∙ ap (λ (b : Bool). cond b (Some (with_part d part)) None) (new_complete d part new)
+after_complete names d e line (says part h new) = grind (arith, says_only, cond, new_complete)
 
 -- one more line behind the others
 pub reads_push : (names : List (List ℕ)) (d e f : Draft) (lines : List (List ℕ)) (line : List ℕ) → ReadsAll names d lines e → Reads names e line f →
@@ -46,16 +37,12 @@ refused_line names d line refused e is = none-some e (sym refused ∙ after_comp
 -- in a loop over lines
 pub reads_step : {A : Type 0} (f : A → List ℕ) (names : List (List ℕ)) (s d e : Draft) (before : List A) (x : A) →
     ReadsAll names s (map f before) d → after_line names d (f x) ≡ Some e → ReadsAll names s (map f (before ++ x ∷ [])) e
-reads_step f names s d e before x read is =
-    subst (λ (l : List (List ℕ)). ReadsAll names s l e) (sym (map-append f before (x ∷ [])))
-    (reads_push names s d e (map f before) (f x) read (after_sound names d e (f x) is))
+reads_step f names s d e before x read is = search (map-append, reads_push, map, after_sound)
 
 -- no line is left
 pub all_read : {A : Type 0} (f : A → List ℕ) (names : List (List ℕ)) (text : List ℕ) (s d : Draft) (before : List A) (left : List (List ℕ)) →
     ReadsAll names s (map f before) d → map f before ++ left ≡ lines_of text → left ≡ [] → ReadsAll names s (lines_of text) d
-all_read f names text s d before left read rest e =
-    subst (λ (ls : List (List ℕ)). ReadsAll names s ls d)
-    (sym (append-nil (map f before)) ∙ ap (λ (ls : List (List ℕ)). map f before ++ ls) (sym e) ∙ rest) read
+all_read f names text s d before left read rest e = grind (arith, append-nil, map)
 
 bad_line : {A : Type 0} (f : A → List ℕ) (names : List (List ℕ)) (text : List ℕ) (front number : ℕ) (d : Draft) (before : List A) (x : A)
     (left after : List (List ℕ)) → ReadsAll names unsaid (map f before) d → map f before ++ left ≡ lines_of text →

@@ -1,21 +1,8 @@
 -- An input asks one thing, or has one first bad line.
-use Rattle.std.proofs.Common.{◌≡◌, ◌⊎◌, inl, inr, ℕ, ◌+◌, ◌<◌, List, [], ◌∷◌, ◌++◌, length, Option, Some, None, option_map, refl, ap, sym, subst, ◌∙◌, arith, append_assoc, append-nil}
-use Rattle.std.proofs.lemmas.Bool.{cases_order}
-use Rattle.std.proofs.lemmas.Option.{same_Some, none-some}
-use Rattle.uv_script.specs.Lines.{lines_of}
-use Rattle.uv_script.specs.Program.{Program}
-use Rattle.uv_script.specs.Grammar.{IsScript, IsBadLine, unread}
-use Rattle.uv_script.proofs.OneReading.{one_script, no_bad_line, one_bad_line}
+use Rattle.uv_inquiry.proofs.Names.{◌≡◌, ◌⊎◌, inl, inr, ℕ, ◌+◌, ◌<◌, List, [], ◌∷◌, ◌++◌, length, Option, Some, None, option_map, refl, ap, sym, subst, ◌∙◌, arith, append_assoc, append-nil, cases_order, same_Some, none-some, lines_of, Program, IsScript, IsBadLine, unread, Begins, Out, End, HasAnswer, MissesBegin, after_last, at_line, Question, Asked, Draft, unsaid, asked_by, finished, Reads, ReadsAll, none, one, Asks, IsBadAsking, no_question, IsInquiry, IsBadInput, no_begin, in_script, behind, after_line, one_script, no_bad_line, one_bad_line}
 use Rattle.uv_engine.specs.Out as out
-use Rattle.uv_engine.specs.Out.{Begins, Out, End, HasAnswer}
-use Rattle.uv_engine.specs.Start.{MissesBegin, after_last, at_line}
-use Rattle.uv_asking.specs.declared.asking.Question.{Question}
-use Rattle.uv_asking.specs.Asked.{Asked}
-use Rattle.uv_inquiry.specs.Drafts.{Draft, unsaid, asked_by, finished}
 use Rattle.uv_inquiry.specs.Grammar as is
-use Rattle.uv_inquiry.specs.Grammar.{Reads, ReadsAll, none, one, Asks, IsBadAsking, no_question, IsInquiry, IsBadInput, no_begin, in_script, behind}
 use Rattle.uv_inquiry.specs.Laws.{HasReading}
-use Rattle.uv_inquiry.specs.Tests.{after_line}
 use Rattle.uv_inquiry.proofs.Lines.{after_sound, after_complete, reads_push, refused_line}
 use Rattle.uv_engine.proofs.Begun.{begins_one, never_begins}
 
@@ -130,10 +117,7 @@ asks_there : {input s t l k : List ℕ} (p q : Program) (Is : List (List ℕ) �
     IsScript s p → IsScript t q → Is q.names k → (p ≡ q) × Is p.names l
 asks_there {input} {s} {t} {l} {k} p q Is b c h i at =
     let cut = begins_one input input s t l k refl b c in
-    let same = one_script s p q h (subst (λ (xs : List ℕ). IsScript xs q) (sym cut.script) i) in (
-      same,
-      subst (λ (r : Program). Is r.names l) (sym same) (subst (Is q.names) (sym cut.commands) at),
-    )
+    let same = one_script s p q h (subst (λ (xs : List ℕ). IsScript xs q) (sym cut.script) i) in (grind arith)
 
 pub inquiry_one : (input : List ℕ) (p q : Program) (a b : Asked) → IsInquiry input p a → IsInquiry input q b → (p ≡ q) × (a ≡ b)
 inquiry_one input p q a b h k =

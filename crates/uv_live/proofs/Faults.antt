@@ -1,11 +1,8 @@
 -- The faults of workers are among those of a run, and so are those of a loop.
-use Rattle.uv_live.proofs.Names.{◌≡◌, ℕ, List, true, Fault, refl, sym, subst, inl, inr, ◌⊎◌, Err, Course, Syncs, Hold, PoolEvent}
+use Rattle.uv_live.proofs.Names.{◌≡◌, ℕ, List, true, Fault, refl, sym, subst, inl, inr, ◌⊎◌, Err, Course, Syncs, Hold, PoolEvent, Settles, IsWorkerFault, Opens, Reserves}
 use Rattle.uv_ids.specs.declared.fault.Fault.TheVariants as fault
 use Rattle.uv_ids.specs.declared.fault.Why.TheVariants as why
 use Rattle.uv_live.specs.Faults.{IsLoopFault, IsRunFault, IsStepFault, IsSyncFault, IsTurnFault, is_workers}
-use Rattle.uv_live.specs.Settling.{Settles}
-use Rattle.uv_pool.specs.Benches.{IsWorkerFault}
-use Rattle.uv_pool.specs.Calls.{Opens, Reserves}
 
 neither : ⊥ ⊎ ⊥ ⊎ ⊥ → ⊥
 neither (inl h) = h

@@ -3,7 +3,7 @@ pub mod Entered
 pub mod Faults
 pub mod Legal
 pub mod Meeting
-mod Names
+pub mod Names
 mod Noted
 mod Numbered
 pub mod Own

@@ -1,6 +1,5 @@
 -- One number more behind those from 0 on.
-use Rattle.uv_live.proofs.Names.{ℕ, zero, suc, ◌≡◌, ◌+◌, ◌++◌, ◌∷◌, List, [], Some, length, map, slice_get, arith}
-use Rattle.uv_live.specs.Running.{AreNumbered}
+use Rattle.uv_live.proofs.Names.{ℕ, zero, suc, ◌≡◌, ◌+◌, ◌++◌, ◌∷◌, List, [], Some, length, map, slice_get, arith, AreNumbered}
 
 more : {X : Type 0} (f : X → ℕ) (m : ℕ) (xs : List X) (x : X) → ((k n : ℕ) → slice_get (map f xs) k ≡ Some n → n ≡ m + k) →
     f x ≡ m + length xs → (k n : ℕ) → slice_get (map f (xs ++ x ∷ [])) k ≡ Some n → n ≡ m + k

@@ -1,6 +1,5 @@
 -- The lines of the senders' threads, each with its thread's.
-use Rattle.uv_live.proofs.Names.{◌≡◌, ◌≢◌, inl, inr, ℕ, zero, suc, ◌+◌, ◌<◌, ◌≤◌, Bool, true, false, cond, ◌||◌, List, [], ◌∷◌, ◌++◌, length, map, filter, take, set, get_or, All, refl, sym, ap, ◌∙◌, arith, append-nil, length-set, get_or-set_other, get_or-set_same, map-append, cases_eq, ne_eqb, eq-eqb, All-map, All-filter, list_any, Var, ThreadLine, is_by, names_by, HasOwn}
-use Rattle.uv_live.specs.Course.{AreNamed}
+use Rattle.uv_live.proofs.Names.{◌≡◌, ◌≢◌, inl, inr, ℕ, zero, suc, ◌+◌, ◌<◌, ◌≤◌, Bool, true, false, cond, ◌||◌, List, [], ◌∷◌, ◌++◌, length, map, filter, take, set, get_or, All, refl, sym, ap, ◌∙◌, arith, append-nil, length-set, get_or-set_other, get_or-set_same, map-append, cases_eq, ne_eqb, eq-eqb, All-map, All-filter, list_any, Var, ThreadLine, is_by, names_by, HasOwn, AreNamed}
 use Rattle.uv_live.proofs.Absorbed.{names_more}
 
 -- no thread has a name where there is no line

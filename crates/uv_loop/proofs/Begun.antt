@@ -1,9 +1,7 @@
 -- A step from where there is room for it: with its line and its record, or not at all.
-use Rattle.uv_loop.proofs.Names.{◌≡◌, ◌∙◌, ◌<◌, ◌-◌, ◌++◌, [], ◌∷◌, ℕ, length, length-append, length-map, slice_get, Option, Some, None, Ok, Err, refl, arith, sym, ap, subst, Event, Seen, Program, Place, Answers, STEPS, refusal_of, Record, Held, Returns, OfEach, Course, IsCourse, Leads, Standing, AreSame, AreRoomier, IsOneMore, event_of, events_of}
+use Rattle.uv_loop.proofs.Names.{◌≡◌, ◌∙◌, ◌<◌, ◌-◌, ◌++◌, [], ◌∷◌, ℕ, length, length-append, length-map, slice_get, Option, Some, None, Ok, Err, refl, arith, sym, ap, subst, Event, Seen, Program, Place, Answers, STEPS, refusal_of, Record, Held, Returns, OfEach, Course, IsCourse, Leads, Standing, AreSame, AreRoomier, IsOneMore, event_of, events_of, seen_by, Takes}
 use Rattle.uv_ids.specs.declared.fault.Fault.TheVariants.{Memory}
 use Rattle.uv_model.specs.Next.{next}
-use Rattle.uv_model.specs.After.{seen_by}
-use Rattle.uv_loop.specs.Course.{Takes}
 use Rattle.uv_loop.proofs.KeptLines.{get_last}
 use Rattle.uv_loop.proofs.Courses.{course, course_moved, course_roomier, course_same, answers_ok, answers_wanting}
 use Rattle.uv_loop.proofs.Told.{few_events, events_told, events_same}

@@ -1,11 +1,9 @@
 -- The row of lines: one more, and one less.
-use Rattle.std.proofs.Common.{◌≡◌, ℕ, zero, suc, ◌+◌, ◌<◌, ◌≤◌, List, [], ◌∷◌, ◌++◌, length, true, false, Option, Some, slice_get, take, pred, refl, sym, ap, ◌∙◌, subst, arith}
-use Rattle.std.proofs.lemmas.List.{map-append, length-append}
-use Rattle.uv_ids.specs.declared.seen.Seen.{Seen}
+use Rattle.uv_loop.proofs.Names.{◌≡◌, ℕ, zero, suc, ◌+◌, ◌<◌, ◌≤◌, List, [], ◌∷◌, ◌++◌, length, true, false, Option, Some, slice_get, take, pred, refl, sym, ap, ◌∙◌, subst, arith, map-append, Seen, all_said, wide_count, InARow, AreKept}
+use Rattle.std.proofs.lemmas.List.{length-append}
 use Rattle.uv_stands.specs.declared.packed_line.Line.{Line}
 use Rattle.uv_stands.specs.declared.packed_line.Line.TheVariants as line
 use Rattle.uv_stands.specs.PackedLines.{said, is_wide, Says}
-use Rattle.uv_loop.specs.LineRows.{all_said, wide_count, InARow, AreKept}
 
 -- one line more, in two words
 in_a_row_narrow : (n : ℕ) (ls : List Line) (l : Line) → is_wide l ≡ false → InARow n ls → InARow n (ls ++ l ∷ [])

@@ -50,109 +50,72 @@ module _ {P : Type 0} where
   as_many (row.Larges ∷ xs) ss ms [] d e f = cc
   as_many (row.Larges ∷ xs) ss ms (k ∷ ks) d e f = ap suc (as_many xs ss ms ks d e (omega arith))
 
-  -- ---- one more in each row
+  module _ (xs : List Row) (ss : List (Entry P Small)) (ms : List (Entry P Medium)) (ks : List (Entry P Large)) where
+    -- ---- one more in each row
 
-  pub small_more : (xs : List Row) (ss : List (Entry P Small)) (ms : List (Entry P Medium)) (ks : List (Entry P Large)) (x : Entry P Small)
-      → Fits xs ss ms ks → records_of (xs ++ row.Smalls ∷ []) (ss ++ x ∷ []) ms ks ≡ records_of xs ss ms ks ++ of_small x ∷ []
-  small_more xs ss ms ks x f =
-      ap (λ n. records_of (xs ++ row.Smalls ∷ []) (ss ++ x ∷ []) n ks) (sym (append-nil ms))
-      ∙ ap (λ n. records_of (xs ++ row.Smalls ∷ []) (ss ++ x ∷ []) (ms ++ []) n) (sym (append-nil ks))
-      ∙ records_more xs (row.Smalls ∷ []) ss (x ∷ []) ms [] ks [] f.small f.medium f.large
+    pub small_more : (x : Entry P Small)
+        → Fits xs ss ms ks → records_of (xs ++ row.Smalls ∷ []) (ss ++ x ∷ []) ms ks ≡ records_of xs ss ms ks ++ of_small x ∷ []
+    small_more x f =
+        ap (λ n. records_of (xs ++ row.Smalls ∷ []) (ss ++ x ∷ []) n ks) (sym (append-nil ms))
+        ∙ ap (λ n. records_of (xs ++ row.Smalls ∷ []) (ss ++ x ∷ []) (ms ++ []) n) (sym (append-nil ks))
+        ∙ records_more xs (row.Smalls ∷ []) ss (x ∷ []) ms [] ks [] f.small f.medium f.large
 
-  pub medium_more : (xs : List Row) (ss : List (Entry P Small)) (ms : List (Entry P Medium)) (ks : List (Entry P Large)) (x : Entry P Medium)
-      → Fits xs ss ms ks → records_of (xs ++ row.Mediums ∷ []) ss (ms ++ x ∷ []) ks ≡ records_of xs ss ms ks ++ of_medium x ∷ []
-  medium_more xs ss ms ks x f =
-      ap (λ n. records_of (xs ++ row.Mediums ∷ []) n (ms ++ x ∷ []) ks) (sym (append-nil ss))
-      ∙ ap (λ n. records_of (xs ++ row.Mediums ∷ []) (ss ++ []) (ms ++ x ∷ []) n) (sym (append-nil ks))
-      ∙ records_more xs (row.Mediums ∷ []) ss [] ms (x ∷ []) ks [] f.small f.medium f.large
+    pub medium_more : (x : Entry P Medium)
+        → Fits xs ss ms ks → records_of (xs ++ row.Mediums ∷ []) ss (ms ++ x ∷ []) ks ≡ records_of xs ss ms ks ++ of_medium x ∷ []
+    medium_more x f =
+        ap (λ n. records_of (xs ++ row.Mediums ∷ []) n (ms ++ x ∷ []) ks) (sym (append-nil ss))
+        ∙ ap (λ n. records_of (xs ++ row.Mediums ∷ []) (ss ++ []) (ms ++ x ∷ []) n) (sym (append-nil ks))
+        ∙ records_more xs (row.Mediums ∷ []) ss [] ms (x ∷ []) ks [] f.small f.medium f.large
 
-  pub large_more : (xs : List Row) (ss : List (Entry P Small)) (ms : List (Entry P Medium)) (ks : List (Entry P Large)) (x : Entry P Large)
-      → Fits xs ss ms ks → records_of (xs ++ row.Larges ∷ []) ss ms (ks ++ x ∷ []) ≡ records_of xs ss ms ks ++ of_large x ∷ []
-  large_more xs ss ms ks x f =
-      ap (λ n. records_of (xs ++ row.Larges ∷ []) n ms (ks ++ x ∷ [])) (sym (append-nil ss))
-      ∙ ap (λ n. records_of (xs ++ row.Larges ∷ []) (ss ++ []) n (ks ++ x ∷ [])) (sym (append-nil ms))
-      ∙ records_more xs (row.Larges ∷ []) ss [] ms [] ks (x ∷ []) f.small f.medium f.large
+    pub large_more : (x : Entry P Large)
+        → Fits xs ss ms ks → records_of (xs ++ row.Larges ∷ []) ss ms (ks ++ x ∷ []) ≡ records_of xs ss ms ks ++ of_large x ∷ []
+    large_more x f =
+        ap (λ n. records_of (xs ++ row.Larges ∷ []) n ms (ks ++ x ∷ [])) (sym (append-nil ss))
+        ∙ ap (λ n. records_of (xs ++ row.Larges ∷ []) (ss ++ []) n (ks ++ x ∷ [])) (sym (append-nil ms))
+        ∙ records_more xs (row.Larges ∷ []) ss [] ms [] ks (x ∷ []) f.small f.medium f.large
 
-  -- the rows fit with one more in each, and without it
-  pub small_fits : (xs : List Row) (ss : List (Entry P Small)) (ms : List (Entry P Medium)) (ks : List (Entry P Large)) (x : Entry P Small)
-      → Fits xs ss ms ks → Fits (xs ++ row.Smalls ∷ []) (ss ++ x ∷ []) ms ks
-  small_fits xs ss ms ks x f =
-      let s = smalls_more xs (row.Smalls ∷ []) in
-      let m = mediums_more xs (row.Smalls ∷ []) in
-      let l = larges_more xs (row.Smalls ∷ []) in
-      let n = length-append ss (x ∷ []) in
-      record { small = omega (arith, s, n, f.small); medium = omega (arith, m, f.medium); large = omega (arith, l, f.large) }
+    -- the rows fit with one more in each, and without it
+    pub small_fits : (x : Entry P Small) → Fits xs ss ms ks → Fits (xs ++ row.Smalls ∷ []) (ss ++ x ∷ []) ms ks
+    small_fits x f = grind (arith, smalls_more, mediums_more, larges_more, length-append)
 
-  pub medium_fits : (xs : List Row) (ss : List (Entry P Small)) (ms : List (Entry P Medium)) (ks : List (Entry P Large)) (x : Entry P Medium)
-      → Fits xs ss ms ks → Fits (xs ++ row.Mediums ∷ []) ss (ms ++ x ∷ []) ks
-  medium_fits xs ss ms ks x f =
-      let s = smalls_more xs (row.Mediums ∷ []) in
-      let m = mediums_more xs (row.Mediums ∷ []) in
-      let l = larges_more xs (row.Mediums ∷ []) in
-      let n = length-append ms (x ∷ []) in
-      record { small = omega (arith, s, f.small); medium = omega (arith, m, n, f.medium); large = omega (arith, l, f.large) }
+    pub medium_fits : (x : Entry P Medium) → Fits xs ss ms ks → Fits (xs ++ row.Mediums ∷ []) ss (ms ++ x ∷ []) ks
+    medium_fits x f = grind (arith, smalls_more, mediums_more, larges_more, length-append)
 
-  pub large_fits : (xs : List Row) (ss : List (Entry P Small)) (ms : List (Entry P Medium)) (ks : List (Entry P Large)) (x : Entry P Large)
-      → Fits xs ss ms ks → Fits (xs ++ row.Larges ∷ []) ss ms (ks ++ x ∷ [])
-  large_fits xs ss ms ks x f =
-      let s = smalls_more xs (row.Larges ∷ []) in
-      let m = mediums_more xs (row.Larges ∷ []) in
-      let l = larges_more xs (row.Larges ∷ []) in
-      let n = length-append ks (x ∷ []) in
-      record { small = omega (arith, s, f.small); medium = omega (arith, m, f.medium); large = omega (arith, l, n, f.large) }
+    pub large_fits : (x : Entry P Large) → Fits xs ss ms ks → Fits (xs ++ row.Larges ∷ []) ss ms (ks ++ x ∷ [])
+    large_fits x f = grind (arith, smalls_more, mediums_more, larges_more, length-append)
 
-  pub small_left : (xs : List Row) (ss : List (Entry P Small)) (ms : List (Entry P Medium)) (ks : List (Entry P Large)) (x : Entry P Small)
-      → Fits (xs ++ row.Smalls ∷ []) (ss ++ x ∷ []) ms ks → Fits xs ss ms ks
-  small_left xs ss ms ks x f =
-      let s = smalls_more xs (row.Smalls ∷ []) in
-      let m = mediums_more xs (row.Smalls ∷ []) in
-      let l = larges_more xs (row.Smalls ∷ []) in
-      let n = length-append ss (x ∷ []) in
-      record { small = omega (arith, s, n, f.small); medium = omega (arith, m, f.medium); large = omega (arith, l, f.large) }
+    pub small_left : (x : Entry P Small) → Fits (xs ++ row.Smalls ∷ []) (ss ++ x ∷ []) ms ks → Fits xs ss ms ks
+    small_left x f = grind (arith, smalls_more, mediums_more, larges_more, length-append)
 
-  pub medium_left : (xs : List Row) (ss : List (Entry P Small)) (ms : List (Entry P Medium)) (ks : List (Entry P Large)) (x : Entry P Medium)
-      → Fits (xs ++ row.Mediums ∷ []) ss (ms ++ x ∷ []) ks → Fits xs ss ms ks
-  medium_left xs ss ms ks x f =
-      let s = smalls_more xs (row.Mediums ∷ []) in
-      let m = mediums_more xs (row.Mediums ∷ []) in
-      let l = larges_more xs (row.Mediums ∷ []) in
-      let n = length-append ms (x ∷ []) in
-      record { small = omega (arith, s, f.small); medium = omega (arith, m, n, f.medium); large = omega (arith, l, f.large) }
+    pub medium_left : (x : Entry P Medium) → Fits (xs ++ row.Mediums ∷ []) ss (ms ++ x ∷ []) ks → Fits xs ss ms ks
+    medium_left x f = grind (arith, smalls_more, mediums_more, larges_more, length-append)
 
-  pub large_left : (xs : List Row) (ss : List (Entry P Small)) (ms : List (Entry P Medium)) (ks : List (Entry P Large)) (x : Entry P Large)
-      → Fits (xs ++ row.Larges ∷ []) ss ms (ks ++ x ∷ []) → Fits xs ss ms ks
-  large_left xs ss ms ks x f =
-      let s = smalls_more xs (row.Larges ∷ []) in
-      let m = mediums_more xs (row.Larges ∷ []) in
-      let l = larges_more xs (row.Larges ∷ []) in
-      let n = length-append ks (x ∷ []) in
-      record { small = omega (arith, s, f.small); medium = omega (arith, m, f.medium); large = omega (arith, l, n, f.large) }
+    pub large_left : (x : Entry P Large) → Fits (xs ++ row.Larges ∷ []) ss ms (ks ++ x ∷ []) → Fits xs ss ms ks
+    large_left x f = grind (arith, smalls_more, mediums_more, larges_more, length-append)
 
   -- ---- the row of smalls
 
-  pub small_pushed : (xs zs : List Row) (ss : List (Entry P Small)) (ms : List (Entry P Medium)) (ks : List (Entry P Large))
-      (ts : List (Entry P Small)) (x : Entry P Small) → zs ≡ xs ++ row.Smalls ∷ [] → ts ≡ ss ++ x ∷ [] → Fits xs ss ms ks → Fits zs ts ms ks
-  small_pushed xs zs ss ms ks ts x e f k = rw e (rw f (small_fits xs ss ms ks x k))
+  module _ (xs zs : List Row) (ss : List (Entry P Small)) (ms : List (Entry P Medium)) (ks : List (Entry P Large)) where
+    pub small_pushed : (ts : List (Entry P Small)) (x : Entry P Small) → zs ≡ xs ++ row.Smalls ∷ [] → ts ≡ ss ++ x ∷ [] → Fits xs ss ms ks
+        → Fits zs ts ms ks
+    small_pushed ts x e f k = rw e (rw f (small_fits xs ss ms ks x k))
 
-  pub small_popped : (xs zs : List Row) (ss : List (Entry P Small)) (ms : List (Entry P Medium)) (ks : List (Entry P Large))
-      (ts : List (Entry P Small)) (x : Entry P Small) (y : Row) → zs ≡ xs ++ y ∷ [] → y ≡ row.Smalls → ts ≡ ss ++ x ∷ [] → Fits zs ts ms ks
-      → Fits xs ss ms ks
-  small_popped xs zs ss ms ks ts x y e is f k = small_left xs ss ms ks x (rw is at (rw e at (rw f at k)))
+    pub small_popped : (ts : List (Entry P Small)) (x : Entry P Small) (y : Row) → zs ≡ xs ++ y ∷ [] → y ≡ row.Smalls → ts ≡ ss ++ x ∷ []
+        → Fits zs ts ms ks → Fits xs ss ms ks
+    small_popped ts x y e is f k = small_left xs ss ms ks x (rw is at (rw e at (rw f at k)))
 
-  pub small_there : (xs zs : List Row) (ss : List (Entry P Small)) (ms : List (Entry P Medium)) (ks : List (Entry P Large)) (y : Row)
-      → zs ≡ xs ++ y ∷ [] → y ≡ row.Smalls → length ss ≡ 0 → Fits zs ss ms ks → ⊥
-  small_there xs zs ss ms ks y e is none k =
-      let n = smalls_more xs (row.Smalls ∷ []) in
-      let all : smalls_of zs ≡ smalls_of (xs ++ row.Smalls ∷ []) = ap smalls_of (e ∙ ap (λ z. xs ++ z ∷ []) is) in
-      omega (arith, n, all, none, k.small)
+    pub small_there : (y : Row) → zs ≡ xs ++ y ∷ [] → y ≡ row.Smalls → length ss ≡ 0 → Fits zs ss ms ks → ⊥
+    small_there y e is none k =
+        let n = smalls_more xs (row.Smalls ∷ []) in
+        let all : smalls_of zs ≡ smalls_of (xs ++ row.Smalls ∷ []) = ap smalls_of (e ∙ ap (λ z. xs ++ z ∷ []) is) in
+        omega (arith, n, all, none, k.small)
 
-  pub small_records : (xs zs : List Row) (ss : List (Entry P Small)) (ms : List (Entry P Medium)) (ks : List (Entry P Large))
-      (ts : List (Entry P Small)) (x : Entry P Small) (y : Row) (r : Record P) → zs ≡ xs ++ y ∷ [] → y ≡ row.Smalls → ts ≡ ss ++ x ∷ []
-      → of_small x ≡ r → Fits xs ss ms ks → records_of zs ts ms ks ≡ records_of xs ss ms ks ++ r ∷ []
-  small_records xs zs ss ms ks ts x y r e is f same k =
-      ap (λ z. records_of z ts ms ks) (e ∙ ap (λ z. xs ++ z ∷ []) is) ∙ ap
-      (λ (t : List (Entry P Small)). records_of (xs ++ row.Smalls ∷ []) t ms ks) f
-      ∙ small_more xs ss ms ks x k ∙ ap (λ q. records_of xs ss ms ks ++ q ∷ []) same
+    pub small_records : (ts : List (Entry P Small)) (x : Entry P Small) (y : Row) (r : Record P) → zs ≡ xs ++ y ∷ [] → y ≡ row.Smalls
+        → ts ≡ ss ++ x ∷ [] → of_small x ≡ r → Fits xs ss ms ks → records_of zs ts ms ks ≡ records_of xs ss ms ks ++ r ∷ []
+    small_records ts x y r e is f same k =
+        ap (λ z. records_of z ts ms ks) (e ∙ ap (λ z. xs ++ z ∷ []) is) ∙ ap
+        (λ (t : List (Entry P Small)). records_of (xs ++ row.Smalls ∷ []) t ms ks) f
+        ∙ small_more xs ss ms ks x k ∙ ap (λ q. records_of xs ss ms ks ++ q ∷ []) same
 
   -- a record and its entry, where the place is kept as this
   pub small_kept : {Q : Type 0} (q : P) (n : Naming) (c : Small) (e : Entry P Small) (r : Record Q)
@@ -165,29 +128,27 @@ module _ {P : Type 0} where
 
   -- ---- the row of mediums
 
-  pub medium_pushed : (xs zs : List Row) (ss : List (Entry P Small)) (ms : List (Entry P Medium)) (ks : List (Entry P Large))
-      (ts : List (Entry P Medium)) (x : Entry P Medium) → zs ≡ xs ++ row.Mediums ∷ [] → ts ≡ ms ++ x ∷ [] → Fits xs ss ms ks → Fits zs ss ts ks
-  medium_pushed xs zs ss ms ks ts x e f k = rw e (rw f (medium_fits xs ss ms ks x k))
+  module _ (xs zs : List Row) (ss : List (Entry P Small)) (ms : List (Entry P Medium)) (ks : List (Entry P Large)) where
+    pub medium_pushed : (ts : List (Entry P Medium)) (x : Entry P Medium) → zs ≡ xs ++ row.Mediums ∷ [] → ts ≡ ms ++ x ∷ [] → Fits xs ss ms ks
+        → Fits zs ss ts ks
+    medium_pushed ts x e f k = rw e (rw f (medium_fits xs ss ms ks x k))
 
-  pub medium_popped : (xs zs : List Row) (ss : List (Entry P Small)) (ms : List (Entry P Medium)) (ks : List (Entry P Large))
-      (ts : List (Entry P Medium)) (x : Entry P Medium) (y : Row) → zs ≡ xs ++ y ∷ [] → y ≡ row.Mediums → ts ≡ ms ++ x ∷ [] → Fits zs ss ts ks
-      → Fits xs ss ms ks
-  medium_popped xs zs ss ms ks ts x y e is f k = medium_left xs ss ms ks x (rw is at (rw e at (rw f at k)))
+    pub medium_popped : (ts : List (Entry P Medium)) (x : Entry P Medium) (y : Row) → zs ≡ xs ++ y ∷ [] → y ≡ row.Mediums → ts ≡ ms ++ x ∷ []
+        → Fits zs ss ts ks → Fits xs ss ms ks
+    medium_popped ts x y e is f k = medium_left xs ss ms ks x (rw is at (rw e at (rw f at k)))
 
-  pub medium_there : (xs zs : List Row) (ss : List (Entry P Small)) (ms : List (Entry P Medium)) (ks : List (Entry P Large)) (y : Row)
-      → zs ≡ xs ++ y ∷ [] → y ≡ row.Mediums → length ms ≡ 0 → Fits zs ss ms ks → ⊥
-  medium_there xs zs ss ms ks y e is none k =
-      let n = mediums_more xs (row.Mediums ∷ []) in
-      let all : mediums_of zs ≡ mediums_of (xs ++ row.Mediums ∷ []) = ap mediums_of (e ∙ ap (λ z. xs ++ z ∷ []) is) in
-      omega (arith, n, all, none, k.medium)
+    pub medium_there : (y : Row) → zs ≡ xs ++ y ∷ [] → y ≡ row.Mediums → length ms ≡ 0 → Fits zs ss ms ks → ⊥
+    medium_there y e is none k =
+        let n = mediums_more xs (row.Mediums ∷ []) in
+        let all : mediums_of zs ≡ mediums_of (xs ++ row.Mediums ∷ []) = ap mediums_of (e ∙ ap (λ z. xs ++ z ∷ []) is) in
+        omega (arith, n, all, none, k.medium)
 
-  pub medium_records : (xs zs : List Row) (ss : List (Entry P Small)) (ms : List (Entry P Medium)) (ks : List (Entry P Large))
-      (ts : List (Entry P Medium)) (x : Entry P Medium) (y : Row) (r : Record P) → zs ≡ xs ++ y ∷ [] → y ≡ row.Mediums → ts ≡ ms ++ x ∷ []
-      → of_medium x ≡ r → Fits xs ss ms ks → records_of zs ss ts ks ≡ records_of xs ss ms ks ++ r ∷ []
-  medium_records xs zs ss ms ks ts x y r e is f same k =
-      ap (λ z. records_of z ss ts ks) (e ∙ ap (λ z. xs ++ z ∷ []) is) ∙ ap
-      (λ (t : List (Entry P Medium)). records_of (xs ++ row.Mediums ∷ []) ss t ks) f
-      ∙ medium_more xs ss ms ks x k ∙ ap (λ q. records_of xs ss ms ks ++ q ∷ []) same
+    pub medium_records : (ts : List (Entry P Medium)) (x : Entry P Medium) (y : Row) (r : Record P) → zs ≡ xs ++ y ∷ [] → y ≡ row.Mediums
+        → ts ≡ ms ++ x ∷ [] → of_medium x ≡ r → Fits xs ss ms ks → records_of zs ss ts ks ≡ records_of xs ss ms ks ++ r ∷ []
+    medium_records ts x y r e is f same k =
+        ap (λ z. records_of z ss ts ks) (e ∙ ap (λ z. xs ++ z ∷ []) is) ∙ ap
+        (λ (t : List (Entry P Medium)). records_of (xs ++ row.Mediums ∷ []) ss t ks) f
+        ∙ medium_more xs ss ms ks x k ∙ ap (λ q. records_of xs ss ms ks ++ q ∷ []) same
 
   -- a record and its entry, where the place is kept as this
   pub medium_kept : {Q : Type 0} (q : P) (n : Naming) (c : Medium) (e : Entry P Medium) (r : Record Q)
@@ -200,29 +161,27 @@ module _ {P : Type 0} where
 
   -- ---- the row of larges
 
-  pub large_pushed : (xs zs : List Row) (ss : List (Entry P Small)) (ms : List (Entry P Medium)) (ks : List (Entry P Large))
-      (ts : List (Entry P Large)) (x : Entry P Large) → zs ≡ xs ++ row.Larges ∷ [] → ts ≡ ks ++ x ∷ [] → Fits xs ss ms ks → Fits zs ss ms ts
-  large_pushed xs zs ss ms ks ts x e f k = rw e (rw f (large_fits xs ss ms ks x k))
+  module _ (xs zs : List Row) (ss : List (Entry P Small)) (ms : List (Entry P Medium)) (ks : List (Entry P Large)) where
+    pub large_pushed : (ts : List (Entry P Large)) (x : Entry P Large) → zs ≡ xs ++ row.Larges ∷ [] → ts ≡ ks ++ x ∷ [] → Fits xs ss ms ks
+        → Fits zs ss ms ts
+    large_pushed ts x e f k = rw e (rw f (large_fits xs ss ms ks x k))
 
-  pub large_popped : (xs zs : List Row) (ss : List (Entry P Small)) (ms : List (Entry P Medium)) (ks : List (Entry P Large))
-      (ts : List (Entry P Large)) (x : Entry P Large) (y : Row) → zs ≡ xs ++ y ∷ [] → y ≡ row.Larges → ts ≡ ks ++ x ∷ [] → Fits zs ss ms ts
-      → Fits xs ss ms ks
-  large_popped xs zs ss ms ks ts x y e is f k = large_left xs ss ms ks x (rw is at (rw e at (rw f at k)))
+    pub large_popped : (ts : List (Entry P Large)) (x : Entry P Large) (y : Row) → zs ≡ xs ++ y ∷ [] → y ≡ row.Larges → ts ≡ ks ++ x ∷ []
+        → Fits zs ss ms ts → Fits xs ss ms ks
+    large_popped ts x y e is f k = large_left xs ss ms ks x (rw is at (rw e at (rw f at k)))
 
-  pub large_there : (xs zs : List Row) (ss : List (Entry P Small)) (ms : List (Entry P Medium)) (ks : List (Entry P Large)) (y : Row)
-      → zs ≡ xs ++ y ∷ [] → y ≡ row.Larges → length ks ≡ 0 → Fits zs ss ms ks → ⊥
-  large_there xs zs ss ms ks y e is none k =
-      let n = larges_more xs (row.Larges ∷ []) in
-      let all : larges_of zs ≡ larges_of (xs ++ row.Larges ∷ []) = ap larges_of (e ∙ ap (λ z. xs ++ z ∷ []) is) in
-      omega (arith, n, all, none, k.large)
+    pub large_there : (y : Row) → zs ≡ xs ++ y ∷ [] → y ≡ row.Larges → length ks ≡ 0 → Fits zs ss ms ks → ⊥
+    large_there y e is none k =
+        let n = larges_more xs (row.Larges ∷ []) in
+        let all : larges_of zs ≡ larges_of (xs ++ row.Larges ∷ []) = ap larges_of (e ∙ ap (λ z. xs ++ z ∷ []) is) in
+        omega (arith, n, all, none, k.large)
 
-  pub large_records : (xs zs : List Row) (ss : List (Entry P Small)) (ms : List (Entry P Medium)) (ks : List (Entry P Large))
-      (ts : List (Entry P Large)) (x : Entry P Large) (y : Row) (r : Record P) → zs ≡ xs ++ y ∷ [] → y ≡ row.Larges → ts ≡ ks ++ x ∷ []
-      → of_large x ≡ r → Fits xs ss ms ks → records_of zs ss ms ts ≡ records_of xs ss ms ks ++ r ∷ []
-  large_records xs zs ss ms ks ts x y r e is f same k =
-      ap (λ z. records_of z ss ms ts) (e ∙ ap (λ z. xs ++ z ∷ []) is) ∙ ap
-      (λ (t : List (Entry P Large)). records_of (xs ++ row.Larges ∷ []) ss ms t) f
-      ∙ large_more xs ss ms ks x k ∙ ap (λ q. records_of xs ss ms ks ++ q ∷ []) same
+    pub large_records : (ts : List (Entry P Large)) (x : Entry P Large) (y : Row) (r : Record P) → zs ≡ xs ++ y ∷ [] → y ≡ row.Larges
+        → ts ≡ ks ++ x ∷ [] → of_large x ≡ r → Fits xs ss ms ks → records_of zs ss ms ts ≡ records_of xs ss ms ks ++ r ∷ []
+    large_records ts x y r e is f same k =
+        ap (λ z. records_of z ss ms ts) (e ∙ ap (λ z. xs ++ z ∷ []) is) ∙ ap
+        (λ (t : List (Entry P Large)). records_of (xs ++ row.Larges ∷ []) ss ms t) f
+        ∙ large_more xs ss ms ks x k ∙ ap (λ q. records_of xs ss ms ks ++ q ∷ []) same
 
   -- a record and its entry, where the place is kept as this
   pub large_kept : {Q : Type 0} (q : P) (n : Naming) (c : Large) (e : Entry P Large) (r : Record Q)

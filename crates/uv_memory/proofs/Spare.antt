@@ -1,5 +1,5 @@
 -- Room in four rows: the least of what is left in each.
-use Rattle.std.proofs.Common.{◌≡◌, ℕ, ◌+◌, ◌-◌, ◌<◌, ◌≤◌, min, arith}
+use Rattle.uv_memory.proofs.Names.{◌≡◌, ℕ, ◌+◌, ◌-◌, ◌<◌, ◌≤◌, min, arith}
 
 module _ (b c d capacity len : ℕ) where
   pub in_first : 0 < min (min (capacity - len) b) (min c d) → len < capacity

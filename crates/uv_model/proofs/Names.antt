@@ -1,49 +1,28 @@
 -- The names that proofs of this crate bring in.
-pub use Rattle.std.proofs.Common.{All, Bool, Err, List, None, Ok, Option, Result, Some, [], add-one, add-zero, ap, arith, cond, drop, drop-cons}
-pub use Rattle.std.proofs.Common.{false, get_or, if◌then◌else◌, length, nat_le, nat_lt, option_and_then, refl, replicate, slice_get, slice_set, subst}
-pub use Rattle.std.proofs.Common.{suc, sym, take, true, unwrap_or, zero, zero-add, ℕ, ◌&&◌, ◌++◌, ◌+◌, ◌<◌, ◌==◌, ◌^◌, ◌∙◌, ◌∷◌, ◌≡◌, ◌≤◌}
-pub use Rattle.std.proofs.lemmas.Bool.{cond_both, eqb-true}
-pub use Rattle.std.proofs.lemmas.Bool.Decides.{nat_tests}
-pub use Rattle.std.proofs.lemmas.Cmp.{nat_cmp_total, on_total, then_total}
-pub use Rattle.std.proofs.lemmas.Grind.{common_steps, elements}
-pub use Rattle.std.proofs.lemmas.List.{take_more}
-pub use Rattle.std.proofs.lemmas.Option.{none-some, same_Some, slice_get_read}
-pub use Rattle.std.specs.Cmp.{IsTotalOrder}
-pub use Rattle.std.specs.List.{AllByRecursion, list_any}
+pub use Rattle.uv_heap.proofs.Names.{Due, IsTotalOrder, due_cmp, nat_cmp_total, on_total, replicate, then_total}
+pub use Rattle.uv_script.proofs.ProofNames.{All, AllByRecursion, Bool, Callback, Equal, Err, Fault, Greater, Kind, Less, List, None, Ok, Option, Order, Ordering, Program, Result, Some, Task, Var, [], ap, arena_size, arith, common_steps, cond, cond_both, drop, eqb-true, false, from_heap, get_or, has_io, if◌then◌else◌, is_eq, length, lines_in, list_any, nat_cmp, nat_le, nat_lt, nat_tests, none-some, option_and_then, order_of, ordering_then, refl, same_Some, slice_get, slice_set, subst, suc, sym, take, take_more, text_of, true, unwrap_or, zero, ℕ, ◌&&◌, ◌++◌, ◌+◌, ◌<◌, ◌==◌, ◌^◌, ◌∙◌, ◌∷◌, ◌≡◌, ◌≤◌}
+pub use Rattle.std.proofs.Common.{add-one, add-zero, drop-cons, zero-add}
+pub use Rattle.std.proofs.lemmas.Grind.{elements}
+pub use Rattle.std.proofs.lemmas.Option.{slice_get_read}
 pub use Rattle.std.specs.Map.{keys_of}
-pub use Rattle.std.specs.Ordering.{is_eq, match_ordering, nat_cmp, ordering_reverse, ordering_then}
-pub use Rattle.std.specs.declared.cmp.Ordering.{Ordering}
-pub use Rattle.std.specs.declared.cmp.Ordering.TheVariants.{Equal, Greater, Less}
-pub use Rattle.uv_ids.specs.Due.{due_cmp}
+pub use Rattle.std.specs.Ordering.{match_ordering, ordering_reverse}
 pub use Rattle.uv_ids.specs.declared.code.Code.{Code}
-pub use Rattle.uv_ids.specs.declared.due.Due.{Due}
 pub use Rattle.uv_ids.specs.declared.event.Event.{Event}
 pub use Rattle.uv_ids.specs.declared.event.Event.TheVariants.{Cancel, Finish, Io, Loop, Send, Take, Tick}
-pub use Rattle.uv_ids.specs.declared.fault.Fault.{Fault}
 pub use Rattle.uv_ids.specs.declared.fault.Why.{Why}
 pub use Rattle.uv_ids.specs.declared.fault.Why.TheVariants.{Blocked, IdleWorker}
 pub use Rattle.uv_ids.specs.declared.id.Id.{Id}
-pub use Rattle.uv_ids.specs.declared.id.Var.{Var}
-pub use Rattle.uv_ids.specs.declared.order.Order.{Order}
 pub use Rattle.uv_ids.specs.declared.order.Order.TheVariants.{V144, V145}
-pub use Rattle.uv_ids.specs.declared.phase.Kind.{Kind}
-pub use Rattle.uv_ids.specs.declared.seen.Callback.{Callback}
 pub use Rattle.uv_ids.specs.declared.seen.Seen.{Seen}
 pub use Rattle.uv_model.specs.After.{AcceptsFrom, Answers, IsMove, goes_on, refusal_of, seen_from, seen_of, state_of}
 pub use Rattle.uv_model.specs.Bounds.{AreBelow, CanStep, HoldsBefore, StartsBefore, line_of}
 pub use Rattle.uv_model.specs.Content.{handle_in, request_in}
 pub use Rattle.uv_model.specs.Found.{found_or}
 pub use Rattle.uv_model.specs.Ids.{same_id, without_id}
-pub use Rattle.uv_model.specs.Next.{Moves, Next, Refuses, after_walk, begin_done, begin_walk, body_from, body_step, call_due, call_io, calls, io}
-pub use Rattle.uv_model.specs.Next.{io_handle, io_run, leave_polled, stage_polled, takes_io, time_polled, cancels, close_front, collect_request}
-pub use Rattle.uv_model.specs.Next.{collected, ends, finish, fire, first_due, front_moved, goes, goes_by, idled_at, idled_then, loop_step, main_step}
-pub use Rattle.uv_model.specs.Next.{may_leave, next_work, refreshes, run_step, sent_to, stage_step, tick, time_at, timers, turns, walk, walk_async}
-pub use Rattle.uv_model.specs.Next.{way, work_of}
+pub use Rattle.uv_model.specs.Next.{Moves, Next, Refuses, after_walk, begin_done, begin_walk, body_from, body_step, call_due, call_io, calls, cancels, close_front, collect_request, collected, ends, finish, fire, first_due, front_moved, goes, goes_by, idled_at, idled_then, io, io_handle, io_run, leave_polled, loop_step, main_step, may_leave, next_work, refreshes, run_step, sent_to, stage_polled, stage_step, takes_io, tick, time_at, time_polled, timers, turns, walk, walk_async, way, work_of}
 pub use Rattle.uv_model.specs.Ops.{do_op, refuses}
 pub use Rattle.uv_model.specs.Queries.{runner_from}
-pub use Rattle.uv_model.specs.State.{State, Watchers, as_handle, as_request, fresh, front, front_request, handle, live, live_handle, live_id}
-pub use Rattle.uv_model.specs.State.{live_request, named, refreshed, request, those_of, watched, with_handle, with_id, with_named, with_request}
-pub use Rattle.uv_model.specs.State.{with_those_of, with_watched}
+pub use Rattle.uv_model.specs.State.{State, Watchers, as_handle, as_request, fresh, front, front_request, handle, live, live_handle, live_id, live_request, named, refreshed, request, those_of, watched, with_handle, with_id, with_named, with_request, with_those_of, with_watched}
 pub use Rattle.uv_model.specs.Steps.{IsOfLoop}
 pub use Rattle.uv_model.specs.Timers.{restarted, started, stopped, taken_off, with_timer, without_timer}
 pub use Rattle.uv_model.specs.declared.place.Body.{Body}
@@ -62,8 +41,7 @@ pub use Rattle.uv_model.specs.declared.place.Way.TheVariants.{ToEnd, ToPending, 
 pub use Rattle.uv_records.specs.Handles.{activated, inited, is_async, is_timer, referenced_as, repeating}
 pub use Rattle.uv_records.specs.Lists.{watcher_kind}
 pub use Rattle.uv_records.specs.Names.{count_of, counted, unbound}
-pub use Rattle.uv_records.specs.Refusals.{again_refusal, close_refusal, invalid_if, is_startable, no_refusal, only_if, send_refusal}
-pub use Rattle.uv_records.specs.Refusals.{start_timer_refusal, start_watcher_refusal, stop_refusal, timer_refusal}
+pub use Rattle.uv_records.specs.Refusals.{again_refusal, close_refusal, invalid_if, is_startable, no_refusal, only_if, send_refusal, start_timer_refusal, start_watcher_refusal, stop_refusal, timer_refusal}
 pub use Rattle.uv_records.specs.Slots.{Slots, freed, held, held_in, next_free, taken, taken_from}
 pub use Rattle.uv_records.specs.Walks.{Walk, all_yet, with_first, with_last}
 pub use Rattle.uv_records.specs.declared.handle.HandleRecord.{HandleRecord}
@@ -71,15 +49,12 @@ pub use Rattle.uv_records.specs.declared.lists.WatcherKind.{WatcherKind}
 pub use Rattle.uv_records.specs.declared.named.Calls.{Calls}
 pub use Rattle.uv_records.specs.declared.named.Named.{Named}
 pub use Rattle.uv_records.specs.declared.slot.Slot.{Slot}
-pub use Rattle.uv_script.specs.Program.{Program, arena_size, from_heap, has_io, lines_in, order_of}
 pub use Rattle.uv_script.specs.declared.op.CallbackLine.{CallbackLine}
 pub use Rattle.uv_script.specs.declared.op.MainOp.{MainOp}
 pub use Rattle.uv_script.specs.declared.op.Op.{Op}
 pub use Rattle.uv_work.specs.Pool.{is_run}
 pub use Rattle.uv_work.specs.Requests.{digest_in, queued}
-pub use Rattle.uv_work.specs.Tasks.{text_of}
 pub use Rattle.uv_work.specs.declared.content.Content.{Content}
 pub use Rattle.uv_work.specs.declared.outcome.Outcome.{Outcome}
 pub use Rattle.uv_work.specs.declared.outcome.Outcome.TheVariants.{Cancelled, Finished}
 pub use Rattle.uv_work.specs.declared.request.Request.{Request}
-pub use Rattle.uv_work.specs.declared.task.Task.{Task}

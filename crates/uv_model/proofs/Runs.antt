@@ -1,9 +1,8 @@
 -- A list of events with one more, and the first of a list.
-use Rattle.uv_model.proofs.Names.{◌≡◌, ℕ, suc, ◌+◌, ◌<◌, zero, List, [], ◌∷◌, ◌++◌, length, take, slice_get, Option, Some, refl, ap, ◌∙◌, get_or, subst, arith, take_more, slice_get_read, Event, Seen, Program, State, fresh, Next, Moves, Refuses, goes_on, seen_from, state_of, seen_of, IsMove, AcceptsFrom, Answers, Fault, Why}
+use Rattle.uv_model.proofs.Names.{◌≡◌, ℕ, suc, ◌+◌, ◌<◌, zero, List, [], ◌∷◌, ◌++◌, length, take, slice_get, Option, Some, refl, ap, ◌∙◌, get_or, subst, arith, take_more, slice_get_read, Event, Seen, Program, State, fresh, Next, Moves, Refuses, goes_on, seen_from, state_of, seen_of, IsMove, AcceptsFrom, Answers, Fault, Why, Err}
 use Rattle.uv_model.specs.Next.{next}
 use Rattle.uv_model.specs.After.{after, seen_by, Accepts}
 use Rattle.uv_ids.specs.declared.fault.Fault.TheVariants as fault
-use Rattle.std.specs.Prelude.{Err}
 
 pub after-nil : (p : Program) → after p [] ≡ fresh p
 unfolding after

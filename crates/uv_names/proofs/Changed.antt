@@ -1,18 +1,5 @@
 -- A state whose names are changed, each by a function that a step can't tell: which is live stays. And the ops in it.
-use Rattle.std.proofs.Common.{◌≡◌, ℕ, List, Option, Some, None, refl, ap, sym, ◌∙◌, slice_get, unwrap_or}
-use Rattle.std.specs.Prelude.{map, option_map}
-use Rattle.std.proofs.lemmas.List.{map-set}
-use Rattle.std.proofs.lemmas.Option.{slice_get-map}
-use Rattle.uv_ids.specs.declared.id.Id.{Id}
-use Rattle.uv_ids.specs.declared.id.Var.{Var}
-use Rattle.uv_records.specs.declared.named.Named.{Named}
-use Rattle.uv_records.specs.Names.{unbound}
-use Rattle.uv_records.specs.Slots.{next_free}
-use Rattle.uv_model.specs.declared.place.Body.{Body}
-use Rattle.uv_model.specs.declared.place.Run.{Run}
-use Rattle.uv_model.specs.declared.place.Place.{Place}
-use Rattle.uv_model.specs.declared.place.Place.TheVariants.{Main, Running}
-use Rattle.uv_model.specs.State.{State, named, with_named, live, live_id}
+use Rattle.uv_names.proofs.Names.{◌≡◌, ℕ, List, Option, Some, None, refl, ap, sym, ◌∙◌, slice_get, unwrap_or, map, option_map, map-set, slice_get-map, Id, Var, Named, unbound, next_free, Body, Run, Place, Main, Running, State, named, with_named, live, live_id}
 
 abbrev pub changed_body : (ℕ → ℕ) → Body → Body
 changed_body c body = record body { call = c body.call }

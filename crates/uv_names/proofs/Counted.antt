@@ -1,19 +1,6 @@
 -- What is counted no further than to a number, what is read of it, and a step.
-use Rattle.std.proofs.Common.{◌≡◌, ℕ, suc, zero, ◌+◌, ◌≤◌, Bool, List, [], ◌∷◌, Option, Some, refl, ap, ap₂, sym, ◌∙◌, arith, drop, slice_get, unwrap_or, if◌then◌else◌}
-use Rattle.std.specs.Prelude.{map, min, option_map}
-use Rattle.std.proofs.lemmas.List.{map-set}
-use Rattle.uv_ids.specs.declared.event.Event.{Event}
-use Rattle.uv_ids.specs.declared.id.Var.{Var}
-use Rattle.uv_ids.specs.declared.seen.Callback.{Callback}
+use Rattle.uv_names.proofs.Names.{◌≡◌, ℕ, suc, zero, ◌+◌, ◌≤◌, Bool, List, [], ◌∷◌, Option, Some, refl, ap, ap₂, sym, ◌∙◌, arith, drop, slice_get, unwrap_or, if◌then◌else◌, map, min, option_map, map-set, Event, Var, Callback, Named, count_of, counted, unbound, Program, Callbacks, no_callbacks, lines_in, lines_of, is_for, next_line, Running, State, named, Moves, next, body_at, body_from, Calls, CallbackLine}
 use Rattle.uv_ids.specs.declared.seen.Callback.TheVariants as callback
-use Rattle.uv_records.specs.declared.named.Calls.{Calls}
-use Rattle.uv_records.specs.declared.named.Named.{Named}
-use Rattle.uv_records.specs.Names.{count_of, counted, unbound}
-use Rattle.uv_script.specs.declared.op.CallbackLine.{CallbackLine}
-use Rattle.uv_script.specs.Program.{Program, Callbacks, no_callbacks, lines_in, lines_of, is_for, next_line}
-use Rattle.uv_model.specs.declared.place.Place.TheVariants.{Running}
-use Rattle.uv_model.specs.State.{State, named}
-use Rattle.uv_model.specs.Next.{Moves, next, body_at, body_from}
 use Rattle.uv_names.specs.Counts.{capped_calls, capped_name, capped_body, capped_place, capped, capped_next, IsBefore, AreBefore, lines_end, callbacks_end, all_end, script_end}
 use Rattle.uv_names.proofs.Changed.{as_is, Hides, named_changed}
 use Rattle.uv_names.proofs.Walk.{SeesAlike, step_alike}

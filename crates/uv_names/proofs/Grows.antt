@@ -1,17 +1,5 @@
 -- No slot goes back to an earlier generation.
-use Rattle.std.proofs.Common.{◌≡◌, ℕ, suc, zero, ◌≤◌, ◌==◌, List, [], ◌∷◌, ◌++◌, Option, Some, refl, subst, arith, option_and_then, slice_get, slice_set}
-use Rattle.std.proofs.lemmas.Bool.{cond_both}
-use Rattle.std.proofs.lemmas.Grind.{elements}
-use Rattle.uv_ids.specs.declared.event.Event.{Event}
-use Rattle.uv_ids.specs.declared.id.Id.{Id}
-use Rattle.uv_ids.specs.declared.seen.Seen.{Seen}
-use Rattle.uv_records.specs.declared.named.Named.{Named}
-use Rattle.uv_records.specs.declared.slot.Slot.{Slot}
-use Rattle.uv_records.specs.Slots.{Slots, freed, held, id_of, next_id, taken_from}
-use Rattle.uv_script.specs.Program.{Program, arena_size}
-use Rattle.uv_work.specs.declared.content.Content.{Content}
-use Rattle.uv_model.specs.State.{State}
-use Rattle.uv_model.specs.Next.{Moves, next}
+use Rattle.uv_names.proofs.Names.{◌≡◌, ℕ, suc, zero, ◌≤◌, ◌==◌, List, [], ◌∷◌, ◌++◌, Option, Some, refl, subst, arith, option_and_then, slice_get, slice_set, Event, Id, Seen, Named, Slot, Slots, freed, held, id_of, next_id, taken_from, Program, arena_size, Content, State, Moves, next, cond_both, elements}
 use Rattle.uv_alike.proofs.Kept.{StaysKept}
 use Rattle.uv_alike.proofs.Walked.{IsKept, next_kept}
 

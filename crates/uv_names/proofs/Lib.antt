@@ -1,3 +1,4 @@
+mod Names
 pub mod Changed
 pub mod Walk
 pub mod Rebound

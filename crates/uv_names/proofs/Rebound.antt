@@ -1,22 +1,6 @@
 -- A state whose names are bound to other ids that no step can tell from theirs. A step from it is the step from the state itself, rebound.
-use Rattle.std.proofs.Common.{◌≡◌, Option, Some, None, refl, ap, sym, ◌∙◌}
-use Rattle.std.specs.Prelude.{map, option_map}
-use Rattle.uv_ids.specs.declared.event.Event.{Event}
-use Rattle.uv_ids.specs.declared.id.Id.{Id}
-use Rattle.uv_ids.specs.declared.id.Var.{Var}
-use Rattle.uv_ids.specs.declared.seen.Callback.{Callback}
-use Rattle.uv_ids.specs.declared.seen.Seen.{Seen}
-use Rattle.uv_records.specs.declared.named.Named.{Named}
-use Rattle.uv_records.specs.Names.{count_of, counted}
-use Rattle.uv_records.specs.Slots.{held, next_free}
-use Rattle.uv_script.specs.Program.{Program}
-use Rattle.uv_model.specs.declared.place.Body.{Body}
-use Rattle.uv_model.specs.declared.place.Run.{Run}
-use Rattle.uv_model.specs.declared.place.Place.{Place}
-use Rattle.uv_model.specs.declared.place.Place.TheVariants.{Main, Running}
-use Rattle.uv_model.specs.State.{State, live_id, named, with_id, with_named}
+use Rattle.uv_names.proofs.Names.{◌≡◌, Option, Some, None, refl, ap, sym, ◌∙◌, map, option_map, Event, Id, Var, Callback, Seen, Named, count_of, counted, held, next_free, Program, Body, Run, Place, Main, Running, State, live_id, named, with_id, with_named, Next, Moves, Refuses, next}
 use Rattle.uv_model.specs.Next as steps
-use Rattle.uv_model.specs.Next.{Next, Moves, Refuses, next}
 use Rattle.uv_names.proofs.Changed.{as_is, changed, changed_body, changed_run, changed_place, Hides, named_changed, with_named_changed}
 use Rattle.uv_names.proofs.Walk.{SeesAlike, step_alike}
 

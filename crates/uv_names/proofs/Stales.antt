@@ -1,16 +1,5 @@
 -- Names that forget the earlier generations of their slots.
-use Rattle.std.proofs.Common.{◌≡◌, List, [], ◌∷◌, Option, refl, ap, ap₂, sym, ◌∙◌, arith, option_and_then}
-use Rattle.std.specs.Prelude.{map, option_map}
-use Rattle.std.proofs.lemmas.Option.{slice_get_past}
-use Rattle.uv_ids.specs.declared.event.Event.{Event}
-use Rattle.uv_ids.specs.declared.id.Id.{Id}
-use Rattle.uv_records.specs.declared.named.Named.{Named}
-use Rattle.uv_records.specs.declared.slot.Slot.{Slot}
-use Rattle.uv_records.specs.Slots.{held, held_in}
-use Rattle.uv_script.specs.Program.{Program}
-use Rattle.uv_work.specs.declared.content.Content.{Content}
-use Rattle.uv_model.specs.State.{State, live_id}
-use Rattle.uv_model.specs.Next.{Next, Moves, Refuses, next}
+use Rattle.uv_names.proofs.Names.{◌≡◌, List, [], ◌∷◌, Option, refl, ap, ap₂, sym, ◌∙◌, arith, option_and_then, map, option_map, slice_get_past, Event, Id, Named, Slot, held, held_in, Program, Content, State, live_id, Next, Moves, Refuses, next}
 use Rattle.uv_names.specs.Stale.{staled_by, staled_id, staled_name, staled, staled_next}
 use Rattle.uv_names.proofs.Grows.{Grow, next_grown}
 use Rattle.uv_names.proofs.Rebound.{HidesIds, next_rebound, rebound_next}

@@ -1,32 +1,12 @@
 -- A step of the loop from a state whose names are changed so that no step can tell: it is a change of the state.
-use Rattle.std.proofs.Common.{◌≡◌, ◌∙◌, ℕ, List, Option, Some, refl, ap, ap₂, sym, arith, slice_set}
-use Rattle.uv_ids.specs.declared.event.Event.{Event}
-use Rattle.uv_ids.specs.declared.id.Id.{Id}
-use Rattle.uv_ids.specs.declared.id.Var.{Var}
-use Rattle.uv_ids.specs.declared.seen.Callback.{Callback}
-use Rattle.uv_ids.specs.declared.seen.Seen.{Seen}
-use Rattle.uv_model.specs.Next.{Moves}
-use Rattle.uv_model.specs.State.{State, named, live}
-use Rattle.uv_model.specs.declared.place.Place.{Place}
-use Rattle.uv_model.specs.declared.place.Place.TheVariants.{Main, Running}
-use Rattle.uv_model.specs.declared.place.Run.{Run}
-use Rattle.uv_records.specs.Slots.{held}
-use Rattle.uv_records.specs.declared.named.Named.{Named}
-use Rattle.uv_script.specs.Program.{Program}
-use Rattle.uv_work.specs.declared.content.Content.{Content}
-use Rattle.std.specs.Prelude.{map}
-use Rattle.std.proofs.lemmas.List.{map-id, map-set, length-map}
+use Rattle.uv_names.proofs.Names.{◌≡◌, ◌∙◌, ℕ, List, Option, Some, refl, ap, ap₂, sym, arith, slice_set, Event, Id, Var, Callback, Seen, Moves, State, named, live, Place, Main, Running, Run, held, Named, Program, Content, map, map-id, map-set, length-map, Next, next, Refuses, Change, same, Comes, changed, changed_content, changed_live, changed_run, changed_place, changed_line, Hides, IsWhole, Why}
 use Rattle.uv_work.specs.declared.content.Content.TheVariants as content
 use Rattle.uv_model.specs.Next as steps
-use Rattle.uv_model.specs.Next.{Next, next}
 use Rattle.uv_names.proofs.Changed as of_names
 use Rattle.uv_names.proofs.Changed.{live_changed, named_changed}
-use Rattle.uv_alike.specs.Changed.{Change, same, Comes, changed, changed_content, changed_live, changed_run, changed_place, changed_line}
-use Rattle.uv_alike.specs.Hides.{Hides, IsWhole, SeesAlike as SeesChanged}
+use Rattle.uv_alike.specs.Hides.{SeesAlike as SeesChanged}
 use Rattle.uv_alike.proofs.Same.{work_same, option_same, lines_same, lists_same, main_same, event_same, stage_same}
 use Rattle.uv_alike.proofs.Walk.{next_alike}
-use Rattle.uv_ids.specs.declared.fault.Why.{Why}
-use Rattle.uv_model.specs.Next.{Refuses}
 
 -- two ways to look at a step, by which one from a changed state is one from the state itself: where it moves, and where a callback begins
 pub record SeesAlike (p : Program) (f : Named → Named) (c : ℕ → ℕ) (r : List (Option Id) → List (Option Id)) (left right : Next → Next) : Type 0 where

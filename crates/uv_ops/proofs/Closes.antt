@@ -1,11 +1,10 @@
 -- A handle is closed.
-use Rattle.uv_ops.proofs.Names.{◌≡◌, ◌≢◌, ℕ, Bool, true, false, ◌∷◌, map, Some, None, refl, sym, ap, ◌∙◌, subst, inl, inr, Id, success, HandleRecord, ListName, close_refusal, invalid_if, IsPushed, record_at, TimerUndo, becoming, Timed, with_arena, IsRescheduled, cleared, id_in, Place, close, closed, members, State, taken_off, IsReached, Content, Handle, Record, handle_of, By, IsShut, moved_by, IsFit, Image, Held, timed_of, OnlyTimed, Does, StandsFor, slots_set, map_same, Listed, list_is, ids_moved, own_id, start_is, time_is}
+use Rattle.uv_ops.proofs.Names.{◌≡◌, ◌≢◌, ℕ, Bool, true, false, ◌∷◌, map, Some, None, refl, sym, ap, ◌∙◌, subst, inl, inr, Id, success, HandleRecord, ListName, close_refusal, invalid_if, IsPushed, record_at, TimerUndo, becoming, Timed, with_arena, IsRescheduled, cleared, id_in, Place, close, closed, members, State, taken_off, IsReached, Content, Handle, Record, handle_of, By, IsShut, moved_by, IsFit, Image, Held, timed_of, OnlyTimed, Does, StandsFor, slots_set, map_same, Listed, list_is, ids_moved, own_id, start_is, time_is, ids_rescheduled}
 use Rattle.uv_ids.specs.declared.code.Answer.TheVariants as answer
 use Rattle.uv_records.specs.declared.lists.ListName.TheVariants as name
 use Rattle.uv_records.specs.Handles as records
 use Rattle.uv_arena.specs.Image as arena
 use Rattle.uv_stands.proofs.Retimed.{retimed, AreRetimed, stands_then, list_left, timers_are}
-use Rattle.uv_stands.proofs.Stops.{ids_rescheduled}
 use Rattle.uv_stands.proofs.TakenOff.{timers_left, lists_left}
 
 -- except the closing list a handle that is closed is off its lists, and no more

@@ -4,7 +4,7 @@ pub mod Edited
 pub mod Inits
 pub mod Leaving
 pub mod Made
-mod Names
+pub mod Names
 pub mod Queues
 pub mod Relisted
 pub mod Sends

@@ -1,7 +1,5 @@
 -- Each line of every list of steps answers what those before it tell.
-use Rattle.uv_order.proofs.Names.{List, ◌∷◌, ◌++◌, Some, None, Option, refl, ap, sym, length, Event, Program, Seen, State, fresh, Next, Moves, Refuses, state_of, Line, line_of_step, history_from, Told, nothing_told, Position, Between, next, history, []}
-use Rattle.uv_order.specs.Dues.{seens}
-use Rattle.uv_order.specs.Answers.{AnswersFrom, AreAnswered, LineAnswers}
+use Rattle.uv_order.proofs.Names.{List, ◌∷◌, ◌++◌, Some, None, Option, refl, ap, sym, length, Event, Program, Seen, State, fresh, Next, Moves, Refuses, state_of, Line, line_of_step, history_from, Told, nothing_told, Position, Between, next, history, [], seens, AnswersFrom, AreAnswered, LineAnswers}
 use Rattle.uv_order.proofs.Lemmas.{did, Did, IsStill, timed, Kept, Working}
 use Rattle.uv_order.proofs.Counted.{replicate_long}
 use Rattle.uv_order.proofs.OpEffects.{none_bound}

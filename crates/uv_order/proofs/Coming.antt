@@ -1,11 +1,8 @@
 -- Where a callback of I/O may begin, each that comes is taken.
-use Rattle.uv_order.proofs.Names.{arith, ◌≡◌, ℕ, ◌+◌, refl, List, true, false, Option, Some, None, length, nat_lt, slice_get, unwrap_or, unbound, Event, Io, Id, Var, Named, Program, has_io, State, Body, Stage, Place, live_handle, io_handle, io_run, takes_io, has_some, Standing, Position, WatcherKind, at_first, MayAnswer, history, next}
-use Rattle.std.proofs.lemmas.Option.{slice_get_within}
+use Rattle.uv_order.proofs.Names.{arith, ◌≡◌, ℕ, ◌+◌, refl, List, true, false, Option, Some, None, length, nat_lt, slice_get, unwrap_or, unbound, Event, Io, Id, Var, Named, Program, has_io, State, Body, Stage, Place, live_handle, io_handle, io_run, takes_io, has_some, Standing, Position, WatcherKind, at_first, MayAnswer, history, next, slice_get_within, refusal_of, quiet_at, body_left}
 use Rattle.uv_model.specs.After as after
-use Rattle.uv_model.specs.After.{refusal_of}
 use Rattle.uv_model.specs.Next as step
 use Rattle.uv_order.specs.Coming.{IsOfIo, IsSettled, MayAnswerAt, TakesIoFrom}
-use Rattle.uv_order.specs.GettingOn.{quiet_at, body_left}
 use Rattle.uv_order.proofs.Documents.{course}
 use Rattle.uv_order.proofs.Leading.{led_by}
 use Rattle.uv_order.proofs.Lemmas.{is_held}

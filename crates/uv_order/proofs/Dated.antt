@@ -1,8 +1,7 @@
 -- When timers are due, as the lines tell it and as the handles say it: each step keeps that they agree.
-use Rattle.uv_order.proofs.Names.{arith, ◌≡◌, ℕ, ◌+◌, ◌==◌, List, ◌∷◌, Bool, true, false, drop, if◌then◌else◌, Option, Some, None, Ok, refl, ap, sym, ◌∙◌, Id, Var, Code, Answer, Kind, Seen, Site, Op, Program, op_at, Request, Content, HandleRecord, WatcherKind, inited, is_timer, referenced_as, repeating, Slots, Slot, handle_in, held, freed, taken, next_free, same_id, State, fresh, handle, queued, live_handle, live_request, with_handle, with_request, watched, stopped, started, restarted, do_op, Next, Moves, Refuses, Activity, bound, kind_as, [], handle_of, collected, front_moved, Line}
+use Rattle.uv_order.proofs.Names.{arith, ◌≡◌, ℕ, ◌+◌, ◌==◌, List, ◌∷◌, Bool, true, false, drop, if◌then◌else◌, Option, Some, None, Ok, refl, ap, sym, ◌∙◌, Id, Var, Code, Answer, Kind, Seen, Site, Op, Program, op_at, Request, Content, HandleRecord, WatcherKind, inited, is_timer, referenced_as, repeating, Slots, Slot, handle_in, held, freed, taken, next_free, same_id, State, fresh, handle, queued, live_handle, live_request, with_handle, with_request, watched, stopped, started, restarted, do_op, Next, Moves, Refuses, Activity, bound, kind_as, [], handle_of, collected, front_moved, Line, starts_anew, starts_called, starts_answered, starts_op, starting, starts, seens, behind, due_told}
 use Rattle.uv_records.specs.Handles as records
 use Rattle.uv_model.specs.Ops as ops
-use Rattle.uv_order.specs.Dues.{starts_anew, starts_called, starts_answered, starts_op, starting, starts, seens, behind, due_told}
 use Rattle.uv_order.proofs.Lemmas.{same, other, turned, Turns, held_at, is_held, put, put_same, put_other, SameHandles, same_handles, DidOp, IsAsked, IsRefusal, op_did, live_held, live_bound, send_both, cancel_both, IsRef, request_turns, freed_turns, Kept, Rests, fills, Did, FrontOf, FirstOf, IsStill, Touches, still_touches, start_touches}
 use Rattle.uv_order.proofs.KeptSteps.{first_is, front_fits}
 use Rattle.uv_order.proofs.Known.{is_answered}

@@ -1,8 +1,7 @@
 -- The lines of every list of steps are in the documented order: what names are bound to by the lines is what the accepted ops of a step
 -- find them bound to.
-use Rattle.uv_order.proofs.Names.{arith, Bool, true, false, Id, HandleRecord, handle, map, ◌≡◌, List, ◌∷◌, ◌++◌, Option, Some, None, refl, ap, sym, subst, ◌∙◌, Event, Seen, Program, worker_count, State, fresh, Next, Moves, Refuses, state_of, lines, Line, line_of_step, history_from, MayFollow, OnceFrom, pool_events, pool_of, Pool, empty_pool, then_event, after_events, PoolEvent, names_by, Told, nothing_told, told_by, Lasting, lasting, at_first, Position, Between, Goes, GoesOn, cut, line, Documented, next, history, replay, []}
+use Rattle.uv_order.proofs.Names.{arith, Bool, true, false, Id, HandleRecord, handle, map, ◌≡◌, List, ◌∷◌, ◌++◌, Option, Some, None, refl, ap, sym, subst, ◌∙◌, Event, Seen, Program, worker_count, State, fresh, Next, Moves, Refuses, state_of, lines, Line, line_of_step, history_from, MayFollow, OnceFrom, pool_events, pool_of, Pool, empty_pool, then_event, after_events, PoolEvent, names_by, Told, nothing_told, told_by, Lasting, lasting, at_first, Position, Between, Goes, GoesOn, cut, line, Documented, next, history, replay, [], Once, was_closed}
 use Rattle.uv_model.specs.After as after
-use Rattle.uv_order.specs.Once.{Once, was_closed}
 use Rattle.uv_order.specs.Told.{AreTold, IsTold, onto}
 use Rattle.uv_order.proofs.Histories.{lines-history}
 use Rattle.uv_order.proofs.Pooling.{Pools, did_pools}

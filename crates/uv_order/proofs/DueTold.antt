@@ -1,7 +1,6 @@
 -- When timers are due, as the lines of every list of steps tell it.
-use Rattle.uv_order.proofs.Names.{List, ◌∷◌, ◌++◌, Some, None, ap, sym, ◌∙◌, Event, Program, is_timer, State, fresh, Next, Moves, Refuses, state_of, Line, line_of_step, history_from, Told, nothing_told, Position, Between, next, history, []}
+use Rattle.uv_order.proofs.Names.{List, ◌∷◌, ◌++◌, Some, None, ap, sym, ◌∙◌, Event, Program, is_timer, State, fresh, Next, Moves, Refuses, state_of, Line, line_of_step, history_from, Told, nothing_told, Position, Between, next, history, [], AreDueTold, lines_onto, seens}
 use Rattle.uv_model.specs.After as after
-use Rattle.uv_order.specs.Dues.{AreDueTold, lines_onto, seens}
 use Rattle.uv_order.proofs.Lemmas.{did}
 use Rattle.uv_order.proofs.Follows.{begins_at}
 use Rattle.uv_order.proofs.Dated.{DatedAt, DatedFollows, did_dated, dated_fresh}

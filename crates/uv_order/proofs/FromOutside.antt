@@ -1,9 +1,8 @@
 -- Each step is its event's own, by its line.
-use Rattle.uv_order.proofs.Names.{arith, ◌≡◌, ℕ, ◌+◌, Option, Some, None, Result, Ok, Err, length, slice_get, refl, cond_both, Id, Var, Event, Loop, Take, Finish, Cancel, Send, Io, Tick, Seen, Why, Program, Request, Run, State, live_handle, Next, Moves, Refuses, next, next_work, work_of, io_handle, io_run, nat_le, nat_lt}
+use Rattle.uv_order.proofs.Names.{arith, ◌≡◌, ℕ, ◌+◌, Option, Some, None, Result, Ok, Err, length, slice_get, refl, cond_both, Id, Var, Event, Loop, Take, Finish, Cancel, Send, Io, Tick, Seen, Why, Program, Request, Run, State, live_handle, Next, Moves, Refuses, next, next_work, work_of, io_handle, io_run, nat_le, nat_lt, OfLoop, loop_lines}
 use Rattle.uv_ids.specs.declared.seen.Seen.TheVariants as seen
 use Rattle.uv_model.specs.Steps.{IsOfLoop}
 use Rattle.uv_model.specs.Next as step
-use Rattle.uv_model.proofs.Refusals.{OfLoop, loop_lines}
 use Rattle.uv_order.specs.Outside.{event_of, SaysEvent}
 
 own : (l : Option Seen) → IsOfLoop l → event_of l ≡ Loop

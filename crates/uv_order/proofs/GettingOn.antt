@@ -1,9 +1,8 @@
 -- A step without a line leaves fewer such steps to take.
-use Rattle.uv_order.proofs.Names.{arith, ℕ, ◌+◌, true, false, Option, Some, None, length, slice_get, cond_both, Id, Event, Loop, Take, Finish, Cancel, Send, Io, Tick, Result, Ok, Err, Why, WatcherKind, CallbackLine, MainOp, Program, order_of, from_heap, lines_in, Request, Body, Place, Run, Stage, Pending, Poll, Polled, Done, DoneUnwoken, Closing, Timers, Collecting, Firing, TimersOf, Turn, AtEntry, Behind, BehindClosing, Way, ToTimers, ToPending, ToEnd, State, front, front_request, watched, may_leave, first_due, next, next_work, work_of, io_handle, io_run, live_handle, Walking, nat_le, nat_lt, goes, found_both}
-use Rattle.uv_model.specs.declared.place.Place.TheVariants.{Main, Running}
+use Rattle.uv_order.proofs.Names.{arith, ℕ, ◌+◌, true, false, Option, Some, None, length, slice_get, cond_both, Id, Event, Loop, Take, Finish, Cancel, Send, Io, Tick, Result, Ok, Err, Why, WatcherKind, CallbackLine, MainOp, Program, order_of, from_heap, lines_in, Request, Body, Place, Run, Stage, Pending, Poll, Polled, Done, DoneUnwoken, Closing, Timers, Collecting, Firing, TimersOf, Turn, AtEntry, Behind, BehindClosing, Way, ToTimers, ToPending, ToEnd, State, front, front_request, watched, may_leave, first_due, next, next_work, work_of, io_handle, io_run, live_handle, Walking, nat_le, nat_lt, goes, found_both, Main, quiet, quiet_at, body_left, Lessens}
+use Rattle.uv_model.specs.declared.place.Place.TheVariants.{Running}
 use Rattle.uv_model.specs.declared.place.Stage.TheVariants.{Entry}
 use Rattle.uv_model.specs.Next as step
-use Rattle.uv_order.specs.GettingOn.{quiet, quiet_at, body_left, Lessens}
 use Rattle.uv_order.proofs.Did.{front_of, first_of}
 
 -- those that are left beside a body's end

@@ -1,8 +1,7 @@
 -- What there is and what the lines tell of it, as the handles and requests say it: each step keeps that they agree.
-use Rattle.uv_order.proofs.Names.{arith, ◌≡◌, ℕ, ◌<◌, ◌==◌, ◌||◌, List, ◌∷◌, Bool, true, false, drop, length, slice_set, if◌then◌else◌, Option, Some, None, Ok, option_map, elements, eqb-true, eq-eqb, refl, ap, sym, ◌∙◌, or_left, or_right, same_Some, Id, Var, Code, Answer, Kind, Seen, Site, Op, Program, op_at, Request, queued, digest_in, Content, HandleRecord, WatcherKind, Named, inited, is_timer, referenced_as, repeating, Slots, held, freed, taken, next_free, handle_in, same_id, without_id, Place, State, handle, live_handle, live_request, with_handle, with_request, stopped, restarted, do_op, Next, Moves, Refuses, has_id, Answered, answered, bound, bound_by, binds, kind_as, [], collected, false_from_ne_true, named}
+use Rattle.uv_order.proofs.Names.{arith, ◌≡◌, ℕ, ◌<◌, ◌==◌, ◌||◌, List, ◌∷◌, Bool, true, false, drop, length, slice_set, if◌then◌else◌, Option, Some, None, Ok, option_map, elements, eqb-true, eq-eqb, refl, ap, sym, ◌∙◌, or_left, or_right, same_Some, Id, Var, Code, Answer, Kind, Seen, Site, Op, Program, op_at, Request, queued, digest_in, Content, HandleRecord, WatcherKind, Named, inited, is_timer, referenced_as, repeating, Slots, held, freed, taken, next_free, handle_in, same_id, without_id, Place, State, handle, live_handle, live_request, with_handle, with_request, stopped, restarted, do_op, Next, Moves, Refuses, has_id, Answered, answered, bound, bound_by, binds, kind_as, [], collected, false_from_ne_true, named, Facts, new_facts, holds_by, holds_answered, holds_line, ids_held, facts, facts_by, facts_done, facts_answered, facts_held, changes}
 use Rattle.uv_records.specs.Handles as records
 use Rattle.uv_model.specs.Ops as ops
-use Rattle.uv_order.specs.Answers.{Facts, new_facts, holds_by, holds_answered, holds_line, ids_held, facts, facts_by, facts_done, facts_answered, facts_held, changes}
 use Rattle.uv_order.proofs.Lemmas.{has_both, has_but_one, without_itself, same_handles, same, other, itself, turned, Turns, turned_to, held_at, is_held, put_turns, DidOp, IsAsked, IsRefusal, op_did, live_held, live_bound, send_both, cancel_both, IsRef, request_turns, freed_turns, Kept, Rests, fills, Did, FrontOf, FirstOf, IsStill, timed, Touches, still_touches, start_touches, again_as, again_touches, set_there}
 use Rattle.uv_order.proofs.KeptSteps.{first_is, front_fits}
 use Rattle.uv_order.proofs.Known.{is_answered, id_in, SameIds, counted_ids}

@@ -1,8 +1,6 @@
 -- Where the lines lead, and that the state stands there.
-use Rattle.uv_order.proofs.Names.{◌≡◌, ◌∙◌, refl, List, Option, Some, None, Event, Seen, Program, State, Body, Run, Stage, Place, Line, Told, Lasting, lasting, at_first, Position, Running, Standing, Answering, Begun, Within, Polling, history, next}
-use Rattle.uv_ids.specs.declared.event.Event.TheVariants.{Loop}
+use Rattle.uv_order.proofs.Names.{◌≡◌, ◌∙◌, refl, List, Option, Some, None, Event, Seen, Program, State, Body, Run, Stage, Place, Line, Told, Lasting, lasting, at_first, Position, Running, Standing, Answering, Begun, Within, Polling, history, next, Loop, refusal_of}
 use Rattle.uv_model.specs.After as after
-use Rattle.uv_model.specs.After.{refusal_of}
 use Rattle.uv_order.specs.Waits as order
 use Rattle.uv_order.specs.Waits.{LeadsTo, GoesOnFrom, there, line}
 use Rattle.uv_order.proofs.Lemmas.{IsBody}

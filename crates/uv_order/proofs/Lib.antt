@@ -25,7 +25,7 @@ pub mod Leading
 mod Lemmas
 mod Lined
 mod Lives
-mod Names
+pub mod Names
 mod OpCases
 mod OpEffects
 mod OpsOnce

@@ -1,9 +1,6 @@
 -- The lists of idle, prepare, check and closing handles, as the lines tell them and as the state has them: each step keeps that they agree.
-use Rattle.uv_order.proofs.Names.{arith, ◌≡◌, ℕ, subst, List, ◌∷◌, ◌++◌, Bool, true, false, drop, Option, Some, None, Ok, refl, ap, sym, ◌∙◌, append-nil, append_assoc, filter-append, not, Id, Var, Code, Answer, Kind, Phase, Seen, Site, Op, Program, op_at, HandleRecord, WatcherKind, phase_of, Walk, same_id, without_id, walk_without_id, Place, State, fresh, handle, live_handle, live_request, stopped, restarted, do_op, Next, Moves, Refuses, has_id, Answered, bound, kind_as, [], AreDistinct, Watchers, those_of, with_those_of, watchers_without_id, Names, off_by, taken_off, names_by, without_ids, front_moved, moved_on}
-use Rattle.uv_records.specs.Walks.{nothing_listed}
+use Rattle.uv_order.proofs.Names.{arith, ◌≡◌, ℕ, subst, List, ◌∷◌, ◌++◌, Bool, true, false, drop, Option, Some, None, Ok, refl, ap, sym, ◌∙◌, append-nil, append_assoc, filter-append, not, Id, Var, Code, Answer, Kind, Phase, Seen, Site, Op, Program, op_at, HandleRecord, WatcherKind, phase_of, Walk, same_id, without_id, walk_without_id, Place, State, fresh, handle, live_handle, live_request, stopped, restarted, do_op, Next, Moves, Refuses, has_id, Answered, bound, kind_as, [], AreDistinct, Watchers, those_of, with_those_of, watchers_without_id, Names, off_by, taken_off, names_by, without_ids, front_moved, moved_on, nothing_listed, facts, calls_kind, fronts, listed_by, listed_answered, listed, left_answered, left_line, left_to_call}
 use Rattle.uv_model.specs.Ops as ops
-use Rattle.uv_order.specs.Answers.{facts}
-use Rattle.uv_order.specs.InTurn.{calls_kind, fronts, listed_by, listed_answered, listed, left_answered, left_line, left_to_call}
 use Rattle.uv_order.proofs.Lemmas.{Lists, not_listed, distinct_back, once_middle, itself, without_absent, left_of, none_off, is_held, Rests, Watches, Closes, Kept, members, on_off, open_shut, DidOp, IsAsked, IsRefusal, IsRef, op_did, op_effect, Agrees, live_held, live_bound, Did, FrontOf, FirstOf, IsStill, timed, send_both, cancel_both}
 use Rattle.uv_order.proofs.IdLists.{one_off, has_back}
 use Rattle.uv_order.proofs.Did.{BeginsNoList, IsUnlisted}

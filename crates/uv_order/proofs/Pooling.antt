@@ -1,6 +1,6 @@
 -- Each line is the event of the thread pool that it says, by the rules of the pool.
-use Rattle.uv_order.proofs.Names.{arith, ◌≡◌, ℕ, ◌||◌, List, ◌∷◌, ◌++◌, map, Bool, true, false, Option, Some, None, Ok, drop, slice_set, refl, ap, sym, subst, ◌∙◌, append_assoc, append-nil, map-append, or_comm, list_any, both_ways, or_right, false_from_ne_true, same_Some, none-some, Id, Var, Code, Answer, Site, Slot, held, freed, next_free, Op, Task, Program, arena_size, op_at, text_of, Pool, runs, is_done, has, without, collected_from, after_event, after_events, is_open, Finished, Cancelled, Content, Request, request_in, same_id, without_id, State, request, live_request, do_op, Next, Moves, Refuses, has_id, AreDistinct, run_ids, op_events, outside_events, line_events, done_as, pool_of, Seen, PoolEvent, digest_of, []}
-use Rattle.uv_work.specs.Pool.{Done as Ended, waits}
+use Rattle.uv_order.proofs.Names.{arith, ◌≡◌, ℕ, ◌||◌, List, ◌∷◌, ◌++◌, map, Bool, true, false, Option, Some, None, Ok, drop, slice_set, refl, ap, sym, subst, ◌∙◌, append_assoc, append-nil, map-append, or_comm, list_any, both_ways, or_right, false_from_ne_true, same_Some, none-some, Id, Var, Code, Answer, Site, Slot, held, freed, next_free, Op, Task, Program, arena_size, op_at, text_of, Pool, runs, is_done, has, without, collected_from, after_event, after_events, is_open, Finished, Cancelled, Content, Request, request_in, same_id, without_id, State, request, live_request, do_op, Next, Moves, Refuses, has_id, AreDistinct, run_ids, op_events, outside_events, line_events, done_as, pool_of, Seen, PoolEvent, digest_of, [], waits}
+use Rattle.uv_work.specs.Pool.{Done as Ended}
 use Rattle.uv_model.specs.Ops as ops
 use Rattle.uv_model.specs.Next as step
 use Rattle.uv_order.proofs.Lemmas.{has_both, on_list, same, other, itself, without_absent, distinct_front, Turns, cancel_both, make_both, Kept, fills, request_turns, freed_turns, FrontRequest, TakesFront, RunsWork, asked_at, AllAsk, IsOpen, HasEnded, once_middle, runs_now, waits_open, runs_open, SameWork, IsOfHandles, IsOfLoop, op_same, KeepsWork, did_same, Working, Did, IsStill}

@@ -1,13 +1,7 @@
 -- What ops answer: what a name stands for by the lines is what it stands for in the state, and so each answer is as the lines tell.
-use Rattle.uv_order.proofs.Names.{arith, ◌≡◌, ◌&&◌, ◌||◌, List, ◌∷◌, Bool, true, false, not, length, list_any, if◌then◌else◌, Option, Some, None, Ok, option_map, unwrap_or, slice_get, slice_get_past, nat_lt, nat_tests, ◌≤◌, refl, ap, sym, subst, ◌∙◌, Id, Var, Due, Code, Answer, Op, Program, Request, Content, HandleRecord, Named, is_timer, held, same_id, State, handle, live, live_handle, live_request, do_op, has_id, bound, was_closed, unbound, named, with_id, [], as_request, Seen, Activity, same_Some, timer_refusal, has_take_line, has_cancel_line, Mode, Outcome, Open, Finished, Cancelled, is_open, run_ids, request_in, or_left, or_right, ◌++◌, cond_both, has_some}
-use Rattle.std.specs.Prelude.{◌-◌}
-use Rattle.std.proofs.lemmas.Bool.{ltb-false}
+use Rattle.uv_order.proofs.Names.{arith, ◌≡◌, ◌&&◌, ◌||◌, List, ◌∷◌, Bool, true, false, not, length, list_any, if◌then◌else◌, Option, Some, None, Ok, option_map, unwrap_or, slice_get, slice_get_past, nat_lt, nat_tests, ◌≤◌, refl, ap, sym, subst, ◌∙◌, Id, Var, Due, Code, Answer, Op, Program, Request, Content, HandleRecord, Named, is_timer, held, same_id, State, handle, live, live_handle, live_request, do_op, has_id, bound, was_closed, unbound, named, with_id, [], as_request, Seen, Activity, same_Some, timer_refusal, has_take_line, has_cancel_line, Mode, Outcome, Open, Finished, Cancelled, is_open, run_ids, request_in, or_left, or_right, ◌++◌, cond_both, has_some, ◌-◌, ltb-false, live_id, as_handle, Line, due_told, seens, Facts, facts, ids_held, held_as, live_told, is_of, is_invalid, active_told, asked, says_of, says, cancel_says, MakesAs, OpAnswers, is_used}
 use Rattle.uv_model.specs.Ops as ops
 use Rattle.uv_model.specs.Found.{found_or}
-use Rattle.uv_model.specs.State.{live_id, as_handle}
-use Rattle.uv_order.specs.Line.{Line}
-use Rattle.uv_order.specs.Dues.{due_told, seens}
-use Rattle.uv_order.specs.Answers.{Facts, facts, ids_held, held_as, live_told, is_of, is_invalid, active_told, asked, says_of, says, cancel_says, MakesAs, OpAnswers}
 use Rattle.uv_order.proofs.Lemmas.{asked_at, has_both, turned, Kept, Working, live_held}
 use Rattle.uv_order.proofs.OpsOnce.{KnownAt}
 use Rattle.uv_order.proofs.Started.{StartedAt}
@@ -16,7 +10,6 @@ use Rattle.uv_order.proofs.Documents.{its_close}
 use Rattle.uv_order.proofs.Heard.{HeardAt, facts_of}
 use Rattle.uv_order.proofs.Lives.{lives_is, may_wait_is, either_way, found, is_any, first, some_of}
 use Rattle.uv_order.proofs.Worked.{EndsTrue}
-use Rattle.uv_model.specs.Content.{is_used}
 use Rattle.uv_order.proofs.Standing.{are_timers}
 use Rattle.uv_records.specs.Dues.{due_in}
 

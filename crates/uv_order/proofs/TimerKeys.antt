@@ -1,6 +1,5 @@
 -- The timers in their order: one is put in, one is taken out, and those that are due stand in front.
-use Rattle.uv_order.proofs.Names.{cond_both, ◌≡◌, ◌⊎◌, inl, inr, ℕ, ◌<◌, ◌≤◌, List, ◌∷◌, false, nat_le, refl, sym, ◌∙◌, arith, filter, nat_cmp, ordering_reverse, MatchOrdering, is_at, Ordering, Less, Greater, nat_tests, ranked, due_cmp, Id, Due, with_timer, without_timer, Has, Before, InOrder, has_id, AreDistinct, due_cmp_total, []}
-use Rattle.std.specs.Prelude.{map}
+use Rattle.uv_order.proofs.Names.{cond_both, ◌≡◌, ◌⊎◌, inl, inr, ℕ, ◌<◌, ◌≤◌, List, ◌∷◌, false, nat_le, refl, sym, ◌∙◌, arith, filter, nat_cmp, ordering_reverse, MatchOrdering, is_at, Ordering, Less, Greater, nat_tests, ranked, due_cmp, Id, Due, with_timer, without_timer, Has, Before, InOrder, has_id, AreDistinct, due_cmp_total, [], map}
 use Rattle.uv_order.proofs.IdLists.{same}
 
 -- ---- one key and another

@@ -1,9 +1,7 @@
 -- The callbacks of each list of steps come in the turn that the lines tell.
-use Rattle.uv_order.proofs.Names.{arith, ◌≡◌, List, ◌∷◌, ◌++◌, map, drop, Option, Some, None, refl, sym, subst, ◌∙◌, Id, Event, Program, Phase, Kind, Seen, HandleRecord, WatcherKind, kind_as, State, fresh, handle, Place, Next, Moves, Refuses, state_of, lines, Line, line_of_step, history_from, Told, nothing_told, Names, Position, Between, Goes, Standing, Within, Polling, Answering, Begun, MayLeave, IsCallLine, Callback, Var, AllOff, word_of, next, history, [], those_of}
+use Rattle.uv_order.proofs.Names.{arith, ◌≡◌, List, ◌∷◌, ◌++◌, map, drop, Option, Some, None, refl, sym, subst, ◌∙◌, Id, Event, Program, Phase, Kind, Seen, HandleRecord, WatcherKind, kind_as, State, fresh, handle, Place, Next, Moves, Refuses, state_of, lines, Line, line_of_step, history_from, Told, nothing_told, Names, Position, Between, Goes, Standing, Within, Polling, Answering, Begun, MayLeave, IsCallLine, Callback, Var, AllOff, word_of, next, history, [], those_of, MayPass, facts, AllCalled, AreInTurn, InTurn, InTurnFrom, IsFirstOf, KindInTurn}
 use Rattle.uv_order.specs.Documented as doc
-use Rattle.uv_order.specs.Documented.{Walk, MayPass}
-use Rattle.uv_order.specs.Answers.{facts}
-use Rattle.uv_order.specs.InTurn.{AllCalled, AreInTurn, InTurn, InTurnFrom, IsFirstOf, KindInTurn}
+use Rattle.uv_order.specs.Documented.{Walk}
 use Rattle.uv_order.proofs.Histories.{lines-history}
 use Rattle.uv_order.proofs.Lemmas.{did, Did, FrontOf, IsStill, timed, Kept, left_of, Rests}
 use Rattle.uv_order.proofs.KeptSteps.{first_is, front_fits}

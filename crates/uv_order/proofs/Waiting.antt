@@ -1,17 +1,9 @@
 -- Where the loop stands still.
-use Rattle.uv_order.proofs.Names.{◌≡◌, ◌∙◌, refl, Option, Some, None, List, slice_get, Event, Program, State}
-use Rattle.uv_ids.specs.declared.event.Event.TheVariants.{Loop}
-use Rattle.uv_script.specs.declared.op.MainOp.{MainOp}
-use Rattle.uv_script.specs.Program.{order_of, lines_in}
-use Rattle.uv_model.specs.After.{after, refusal_of}
+use Rattle.uv_order.proofs.Names.{◌≡◌, ◌∙◌, refl, Option, Some, None, List, slice_get, Event, Program, State, Loop, MainOp, order_of, lines_in, refusal_of, Body, Run, Place, Main, Stage, stage_refusal, stage_moves, body_moves, main_moves}
+use Rattle.uv_model.specs.After.{after}
 use Rattle.uv_model.specs.Next as step
-use Rattle.uv_model.specs.declared.place.Body.{Body}
-use Rattle.uv_model.specs.declared.place.Run.{Run}
-use Rattle.uv_model.specs.declared.place.Place.{Place}
-use Rattle.uv_model.specs.declared.place.Place.TheVariants.{Main, Running}
-use Rattle.uv_model.specs.declared.place.Stage.{Stage}
+use Rattle.uv_model.specs.declared.place.Place.TheVariants.{Running}
 use Rattle.uv_model.specs.declared.place.Stage.TheVariants as stage
-use Rattle.uv_model.proofs.Refusals.{stage_refusal, stage_moves, body_moves, main_moves}
 use Rattle.uv_order.specs.Waits as order
 
 at : (s : State) (x : Stage) → stage_refusal s x ≡ order.waits_at s x

@@ -1,10 +1,7 @@
 -- What the plain loop keeps, and what it answers, after a step that is taken, refused or without memory.
-use Rattle.uv_plain.proofs.Names.{◌≡◌, ◌<◌, ℕ, List, [], ◌∷◌, ◌++◌, length, length-append, Option, Some, None, Ok, Err, ap, sym, ◌∙◌, subst, arith, Event, Fault, Why, Seen, Program, Job, State, Next, Moves, Refuses, refusal_of, IsMove, Answers, STEPS, RefusesResult, AnswersResult, Steps, Trail, IsAfter}
+use Rattle.uv_plain.proofs.Names.{◌≡◌, ◌<◌, ℕ, List, [], ◌∷◌, ◌++◌, length, length-append, Option, Some, None, Ok, Err, ap, sym, ◌∙◌, subst, arith, Event, Fault, Why, Seen, Program, Job, State, Next, Moves, Refuses, refusal_of, IsMove, Answers, STEPS, RefusesResult, AnswersResult, Steps, Trail, IsAfter, next, after, after-moves, seen_by-moves}
 use Rattle.uv_ids.specs.declared.fault.Fault.TheVariants as fault
 use Rattle.uv_model.specs.declared.machine.Outcome.{Outcome}
-use Rattle.uv_model.specs.Next.{next}
-use Rattle.uv_model.specs.After.{after}
-use Rattle.uv_model.proofs.Runs.{after-moves, seen_by-moves}
 
 -- one step more
 pub kept_more : (p : Program) (es fs : List Event) (seen seens : List (Option Seen)) (s t : State) (e : Event) (line : Option Seen) →

@@ -4,7 +4,7 @@ pub mod Keeps
 pub mod Kept
 pub mod Leaving
 mod Looks
-mod Names
+pub mod Names
 pub mod Numbers
 pub mod Replays
 pub mod Results

@@ -1,7 +1,5 @@
 -- A look at the log past its first entries.
-use Rattle.uv_pool.proofs.Names.{◌≡◌, ◌≤◌, ◌<◌, ℕ, List, Some, false, slice_get}
-use Rattle.uv_work.specs.declared.event.PoolEvent.{PoolEvent}
-use Rattle.uv_pool.specs.Book.{is_finish}
+use Rattle.uv_pool.proofs.Names.{◌≡◌, ◌≤◌, ◌<◌, ℕ, List, Some, false, slice_get, PoolEvent, is_finish}
 
 -- no finish stands from the n-th entry on and before this place
 abbrev pub NoneFinished : ℕ → ℕ → List PoolEvent → Type 0

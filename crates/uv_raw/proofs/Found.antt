@@ -1,9 +1,7 @@
 -- The piece of an index, as the code finds it.
-use Rattle.std.proofs.Common.{◌≡◌, ℕ, ◌+◌, ◌*◌, ◌/◌, ◌%◌, ◌-◌, ◌<◌, ◌≤◌, List, [], ◌∷◌, ◌++◌, length, set, get_or, slice_get, Some, sym, ap, ◌∙◌, subst, arith, length-append, length-set}
-use Rattle.std.proofs.lemmas.Option.{slice_get-get_or, slice_get_within}
-use Rattle.uv_raw.specs.Row.{Row, row}
+use Rattle.uv_raw.proofs.Names.{◌≡◌, ℕ, ◌+◌, ◌*◌, ◌/◌, ◌%◌, ◌-◌, ◌<◌, ◌≤◌, List, [], ◌∷◌, ◌++◌, length, set, get_or, slice_get, Some, sym, ap, ◌∙◌, subst, arith, length-append, length-set, slice_get-get_or, slice_get_within, Row, flat, IsLaid, pieced_of, IsPieced}
+use Rattle.uv_raw.specs.Row.{row}
 use Rattle.uv_raw.specs.Pieced.{Pieced}
-use Rattle.uv_raw.specs.Laid.{flat, IsLaid, pieced_of, IsPieced}
 use Rattle.uv_raw.specs.declared.pieces.Pieces.TheInside.{Inside}
 use Rattle.uv_raw.proofs.Laying.{piece_of, in_piece, set_laid, some_at, flat_laid, next_piece, next_place, push_laid, grown_laid, all_laid, last_split, last_place, pop_laid}
 

@@ -1,20 +1,10 @@
 -- The heap's two functions at a call: what each is handed, and what the caller has afterwards.
-use Rattle.uv_raw.proofs.Names.{done, ◌≡◌, ℕ, ◌<◌, ◌^◌, List, [], ◌∷◌, ◌++◌, refl, ap, ◌∙◌, w64, Ura, SProp, ent, never, Lft, Share, ftrue, fsep, froom, flft, Val, vptr, vint, of_list, Logic, sem, Item, Goal, Seq, ‵, raw, some, later, ◌⊛◌, ◌$◌, ◌∵◌, !, qed, move, drop, use0, join, fsplit, fjoin, feq_i, feq_l, flt_i, fpick, in_a_block, live, hidden_shr, Ptr, block_ptr, ptr_val, nothing, fact}
-use base.Logic.{emp, sep, fst∗}
-use contract.Monad.{Fun, fact_i}
-use mir.Syntax.{Ty}
-use prog.Memory.{Memory}
+use Rattle.uv_raw.proofs.Names.{done, ◌≡◌, ℕ, ◌<◌, ◌^◌, List, [], ◌∷◌, ◌++◌, refl, ap, ◌∙◌, w64, Ura, SProp, ent, never, Lft, Share, ftrue, fsep, froom, flft, Val, vptr, vint, of_list, Logic, sem, Item, Goal, Seq, ‵, raw, some, later, ◌⊛◌, ◌$◌, ◌∵◌, !, qed, move, drop, use0, join, fsplit, fjoin, feq_i, feq_l, flt_i, fpick, in_a_block, live, hidden_shr, Ptr, block_ptr, ptr_val, nothing, fact, emp, sep, fst∗, Fun, fact_i, Ty, Memory, unit, null_ptr, room_for, only, heap_token, Answer, answer_val, true, false}
 use prog.Routine.{Routine}
-use denote.Builtin.{unit}
-use denote.RawPtr.{null_ptr, room_for}
-use denote.Steps.{only}
 use denote.Triple.Statement.{Contract}
 use denote.Triple.Spec.{triple_of}
-use Rattle.uv_raw.specs.Ownership.{heap_token}
 use Rattle.core.specs.Allocator.{block_if_ok, HasLayout}
 use Rattle.core.specs.declared.result.Result.TheVariants.{Ok, Err}
-use Rattle.core.proofs.alloc.Calls.{Answer, answer_val}
-use mathlib.Core.Bool.{true, false}
 use Rattle.std_heap.specs.contracts.Global as Heap
 use Rattle.std_heap.specs.contracts.GlobalAllocator.allocate as Allocate
 use Rattle.std_heap.specs.contracts.GlobalAllocator.deallocate as Deallocate

@@ -1,7 +1,7 @@
 -- Items in pieces, index by index.
-use Rattle.std.proofs.Common.{◌≡◌, ℕ, zero, suc, ◌+◌, ◌*◌, ◌<◌, ◌≤◌, List, [], ◌∷◌, ◌++◌, length, take, drop, set, slice_get, Some, refl, sym, ap, ◌∙◌, subst, arith, take-append-drop, length-drop, length-append, suc-mul, mul-suc, zero-mul}
-use Rattle.uv_raw.specs.Row.{Row, row}
-use Rattle.uv_raw.specs.Laid.{flat, IsLaid}
+use Rattle.uv_raw.proofs.Names.{◌≡◌, ℕ, ◌+◌, ◌*◌, ◌<◌, ◌≤◌, List, [], ◌∷◌, ◌++◌, length, take, set, slice_get, Some, refl, sym, ap, ◌∙◌, subst, arith, take-append-drop, length-drop, length-append, suc-mul, mul-suc, zero-mul, Row, flat, IsLaid}
+use Rattle.std.proofs.Common.{zero, suc, drop}
+use Rattle.uv_raw.specs.Row.{row}
 
 module _ {X : Type 0} where
   get-take : (n : ℕ) (xs : List X) (i : ℕ) → i < n → slice_get (take n xs) i ≡ slice_get xs i

@@ -1,15 +1,6 @@
 -- What a `Room` owns is taken apart and made, and a `&mut` to one is opened and closed.
-use Rattle.uv_raw.proofs.Names.{◌≡◌, ℕ, ◌*◌, ◌^◌, ◌<◌, List, [], ◌∷◌, ◌++◌, length, refl, sym, ap, ◌∙◌, Ura, full_share, id⊢, never, Lft, GName, Share, fsep, flft, fobs, fauth, fbor, fobor, Gv, Val, of_list, vstruct, Logic, Borrowed, Item, Goal, Seq, Step, Soaks, step, ‵, ◌$◌, move, drop, fsplit, fjoin, feq_i, feq_l, flt_i, flt_l, fpick, fpack, rewrite, cell_at, mem, RattleType, Valss, Ptr, block_ptr, ptr_val, in_a_block, opens, closes, nothing, Struct, within, shape, El, R, word}
-use base.Logic.{ent, sep}
-use types.Logic.{sem}
-use types.Kit.{ !, qed, ◌⊛◌, ◌∵◌, keep, use1, split, done}
-use denote.Memory.{hidden_shr}
+use Rattle.uv_raw.proofs.Names.{◌≡◌, ℕ, ◌*◌, ◌^◌, ◌<◌, List, [], ◌∷◌, ◌++◌, length, refl, sym, ap, ◌∙◌, Ura, full_share, id⊢, never, Lft, GName, Share, fsep, flft, fobs, fauth, fbor, fobor, Gv, Val, of_list, vstruct, Logic, Borrowed, Item, Goal, Seq, Step, Soaks, step, ‵, ◌$◌, move, drop, fsplit, fjoin, feq_i, feq_l, flt_i, flt_l, fpick, fpack, rewrite, cell_at, mem, RattleType, Valss, Ptr, block_ptr, ptr_val, in_a_block, opens, closes, nothing, Struct, within, shape, El, R, word, ent, sep, sem, !, qed, ◌⊛◌, ◌∵◌, keep, use1, split, done, hidden_shr, RawPtr, lent_out, fhide, el_x, held, room_owns, room_shares}
 use denote.Opens.{unhide}
-use denote.RawPtr.{RawPtr}
-use denote.Struct.Lending.{lent_out}
-use base.Fml.{fhide}
-use Rattle.core.proofs.mem.Param.{el_x}
-use Rattle.uv_raw.specs.Ownership.{held, room_owns, room_shares}
 use Prim.Native.Nat.{◌+◌}
 use Rattle.uv_raw.specs.contracts.room.Room as C
 use Rattle.uv_raw.proofs.Places.{size}

@@ -4,25 +4,13 @@
 --     place_seen           the value that a `&` to the row shows there
 --     cut_up, put_together  room for n items is n empty places, and any n places are room
 use mathlib.Core.Path.{◌≡◌, refl}
-use Prim.Native.Nat.{ℕ, zero, suc, ◌+◌, ◌*◌, ◌<◌}
+use Rattle.uv_raw.proofs.Names.{zero, suc, not-suc-le-zero, replicate, Ura, full_share, ty_array, Val, ent, sep, Fml, Lft, ftrue, fsep, fat, froom, Logic, sem, ‵, some, ◌⊛◌, ◌$◌, ◌∵◌, !, qed, by, move, keep, use1, use2, pick, split, rewrite, frame, fsplit, done, part_at, shared_of, Option, Some, None, slice_get, type_size, El, R, el_x, elτ, place, row, place_shared, row_shared}
+use Prim.Native.Nat.{ℕ, ◌+◌, ◌*◌, ◌<◌}
 use native.Mathlib.Omega.{arith}
-use native.Mathlib.Nat.{zero-mul, suc-mul, not-suc-le-zero}
+use native.Mathlib.Nat.{zero-mul, suc-mul}
 use mathlib.Core.List.{List, [], ◌∷◌}
-use lib.ListN.{length, set, replicate}
-use seplogic.Ra.Ura.{Ura}
-use base.Fraction.{full_share}
-use mir.Syntax.{ty_array}
-use mir.Val.{Val}
-use base.Logic.{ent, sep}
-use base.Fml.{Fml, Lft, ftrue, fsep, fat, froom}
-use types.Logic.{Logic, sem}
-use types.Kit.{‵, some, ◌⊛◌, ◌$◌, ◌∵◌, !, qed, by, move, keep, use1, use2, pick, split, rewrite, frame, fsplit, done}
-use denote.Memory.{part_at, shared_of}
+use lib.ListN.{length, set}
 use borrow.Table.OneValue.{part_in, part_out}
-use Rattle.std.specs.Prelude.{Option, Some, None, slice_get}
-use Rattle.std.specs.Mem.{type_size}
-use Rattle.core.proofs.mem.Param.{El, R, el_x, elτ}
-use Rattle.uv_raw.specs.Ownership.{place, row, place_shared, row_shared}
 
 module _ (E : El) where
   abbrev pub size : ℕ

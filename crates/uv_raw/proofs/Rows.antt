@@ -1,12 +1,11 @@
 -- The first places of a row, when one is read, written, added or taken off; and the same of the fields of a block.
 use mathlib.Core.Path.{◌≡◌, refl, sym, ap, subst, ◌∙◌}
-use Prim.Native.Nat.{ℕ, zero, suc, ◌+◌, ◌-◌, ◌<◌, ◌≤◌}
+use Rattle.uv_raw.proofs.Names.{zero, suc, not-suc-le-zero, Option, Some, None, slice_get, Row, firsts, Filled}
+use Prim.Native.Nat.{ℕ, ◌+◌, ◌-◌, ◌<◌, ◌≤◌}
 use native.Mathlib.Omega.{arith}
-use native.Mathlib.Nat.{not-suc-le-zero}
 use mathlib.Core.List.{List, [], ◌∷◌, ◌++◌}
 use lib.ListN.{length, set, length-set, length-append}
-use Rattle.std.specs.Prelude.{Option, Some, None, slice_get}
-use Rattle.uv_raw.specs.Row.{Row, row, firsts, Filled}
+use Rattle.uv_raw.specs.Row.{row}
 use Rattle.uv_raw.specs.Inside.{row_of, IsRow}
 use Rattle.uv_raw.specs.declared.raw_row.RawRow.TheInside.{Inside}
 

@@ -1,18 +1,8 @@
 -- A `&` to a row is made where one to an item is.
 use Prim.Native.Nat.{ℕ, ◌+◌}
-use Rattle.std.specs.Prelude.{List, [], ◌∷◌, Option, Some, None}
-use Rattle.std.specs.Mem.{type_size}
-use seplogic.Ra.Ura.{Ura}
-use base.Fml.{Lft, ftrue, ffalse}
-use types.Logic.{Logic}
-use denote.RattleType.{RattleType, RowLaws}
-use denote.RawPtr.{Ptr, block_ptr, null_ptr}
-use Rattle.std.specs.Prelude.{length}
+use Rattle.uv_raw.proofs.Names.{List, [], ◌∷◌, Option, Some, None, type_size, Ura, Lft, ftrue, ffalse, Logic, RattleType, RowLaws, Ptr, block_ptr, null_ptr, length, Shares, Lends, Lends-both, Lends-first, Lends-nothing, Lends-said, Lends-false, heap_token, place, row, fits, block, held, room_owns, place_shared, row_shared, room_shares}
 use denote.Sharing.{ShrLaws, said}
 use denote.SharingLaws.{beside_shr_laws, nothing_shr_laws, said_shr_laws}
-use denote.Shares.{Shares}
-use denote.Struct.Lending.{Lends, Lends-both, Lends-first, Lends-nothing, Lends-said, Lends-false}
-use Rattle.uv_raw.specs.Ownership.{heap_token, place, row, fits, block, held, room_owns, place_shared, row_shared, room_shares}
 
 module _ (R : RattleType) (L : RowLaws R) where
   place_laws : (b o : ℕ) (c : Option R.Denot) → ShrLaws (place_shared R b o c)

@@ -4,6 +4,6 @@ pub mod Collected
 pub mod Ending
 pub mod Fresh
 pub mod Holding
-mod Names
+pub mod Names
 pub mod Opened
 pub mod Rules

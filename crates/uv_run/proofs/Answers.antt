@@ -1,10 +1,9 @@
 -- What a session answers to a step, as a live run sees it.
-use Rattle.uv_run.proofs.Names.{◌≡◌, inl, inr, ℕ, ◌+◌, List, [], ◌∷◌, ◌++◌, false, cond, Option, Some, None, Result, Ok, Err, refl, ap, ap₂, sym, subst, ◌∙◌, append-nil, arith, count_by, Event, Loop, Take, Finish, Send, Tick, Fault, Why, Seen, Id, Var, Program, worker_count, Job, PoolEvent, IsLegal, Outcome, Moves, Refuses, RefusesResult, NoWork, refusal_of, Shown, Responds, TakesEvent, TakesResult, pool_of, IsTakenAs, pools, take_is_taken, finish_is_taken, Course, stepped, Applies, StaysEnded, is_send, Steps, events_in, events_of_loop, IsOfLoop, course_of, refusal_in, polls_in, hours_in, SameSends, Sends}
+use Rattle.uv_run.proofs.Names.{◌≡◌, inl, inr, ℕ, ◌+◌, List, [], ◌∷◌, ◌++◌, false, cond, Option, Some, None, Result, Ok, Err, refl, ap, ap₂, sym, subst, ◌∙◌, append-nil, arith, count_by, Event, Loop, Take, Finish, Send, Tick, Fault, Why, Seen, Id, Var, Program, worker_count, Job, PoolEvent, IsLegal, Outcome, Moves, Refuses, RefusesResult, NoWork, refusal_of, Shown, Responds, TakesEvent, TakesResult, pool_of, IsTakenAs, pools, take_is_taken, finish_is_taken, Course, stepped, Applies, StaysEnded, is_send, Steps, events_in, events_of_loop, IsOfLoop, course_of, refusal_in, polls_in, hours_in, SameSends, Sends, after}
 use Rattle.uv_ids.specs.declared.fault.Fault.TheVariants as fault
 use Rattle.uv_ids.specs.declared.seen.Seen.TheVariants as seen
 use Rattle.uv_work.specs.declared.event.PoolEvent.TheVariants as event
 use Rattle.uv_model.specs.Next.{next}
-use Rattle.uv_model.specs.After.{after}
 use Rattle.uv_run.specs.Events.{events_by, refusal_after, polls_after, hours_after}
 use Rattle.uv_run.proofs.Counting.{count_push}
 use Rattle.uv_run.proofs.Loops.{of_loop}

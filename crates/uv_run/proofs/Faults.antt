@@ -1,10 +1,9 @@
 -- Which faults a session answers to a step of a live run.
-use Rattle.uv_run.proofs.Names.{Option, Some, None, Err, slice_get, cond_both, sym, subst, Event, Loop, Fault, Why, Program, MainOp, lines_in, order_of, Body, Place, Main, Running, Run, Stage, State, Next, refusal_of, stage_refusal, stage_moves, body_moves, main_moves, Shown, TakesEvent, IsEventFault, IsStepFault}
+use Rattle.uv_run.proofs.Names.{Option, Some, None, Err, slice_get, cond_both, sym, subst, Event, Loop, Fault, Why, Program, MainOp, lines_in, order_of, Body, Place, Main, Running, Run, Stage, State, Next, refusal_of, stage_refusal, stage_moves, body_moves, main_moves, Shown, TakesEvent, IsEventFault, IsStepFault, after}
 use Rattle.uv_ids.specs.declared.fault.Fault.TheVariants as fault
 use Rattle.uv_model.specs.declared.place.Stage.TheVariants as stage
 use Rattle.uv_model.specs.Next as step
 use Rattle.uv_model.specs.Next.{next}
-use Rattle.uv_model.specs.After.{after}
 
 -- ---- any event
 

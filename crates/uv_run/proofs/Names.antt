@@ -1,63 +1,27 @@
 -- The names that proofs of this crate bring in.
-pub use Rattle.std.proofs.Common.{All, Bool, Err, List, None, Ok, Option, Result, Some, [], ap, append-nil, append_assoc, ap₂, arith, cond, false}
-pub use Rattle.std.proofs.Common.{get_or, inl, inr, length, length-append, nat_le, nat_lt, refl, replicate, slice_get, slice_index, slice_set, subst}
-pub use Rattle.std.proofs.Common.{suc, sym, take, true, zero, ℕ, ◌++◌, ◌+◌, ◌-◌, ◌<◌, ◌==◌, ◌∙◌, ◌∷◌, ◌≡◌, ◌≤◌}
-pub use Rattle.std.proofs.lemmas.Bool.{cond_both, eqb-false, eqb-true}
-pub use Rattle.std.proofs.lemmas.Bool.Decides.{nat_tests}
-pub use Rattle.std.proofs.lemmas.List.{get_or-replicate, get_or-set_other, get_or-set_same, length-replicate, length-set, take_more}
-pub use Rattle.std.proofs.lemmas.List.Sums.{sum_by-cons, sum_by_push}
-pub use Rattle.std.proofs.lemmas.Option.{none-some, slice_get_within}
-pub use Rattle.std.specs.List.{count_by, flat_map}
-pub use Rattle.std.specs.Prelude.{option_to_list}
-pub use Rattle.uv_ids.specs.declared.code.Code.{Code}
-pub use Rattle.uv_ids.specs.declared.event.Event.{Event}
-pub use Rattle.uv_ids.specs.declared.event.Event.TheVariants.{Finish, Loop, Send, Take, Tick}
-pub use Rattle.uv_ids.specs.declared.fault.Fault.{Fault}
-pub use Rattle.uv_ids.specs.declared.fault.Why.{Why}
-pub use Rattle.uv_ids.specs.declared.fault.Why.TheVariants.{Ended, NoWork}
-pub use Rattle.uv_ids.specs.declared.id.Id.{Id}
-pub use Rattle.uv_ids.specs.declared.id.Var.{Var}
-pub use Rattle.uv_ids.specs.declared.seen.Seen.{Seen}
-pub use Rattle.uv_ids.specs.declared.thread_line.ThreadLine.{ThreadLine}
+pub use Rattle.uv_live.proofs.Names.{All, Applies, AreNamed, Course, Fault, Job, Plan, StaysEnded, ThreadLine, ap₂, count_by, eqb-false, get_or, get_or-set_other, get_or-set_same, is_line, same_id, stepped, take, take_more}
+pub use Rattle.uv_order.proofs.Names.{Body, Bool, Code, Ended, Err, Event, Finish, HandleRecord, Id, IsLegal, IsTakenAs, List, Loop, Main, MainOp, Moves, Next, None, OfLoop, Ok, Option, Place, Pool, PoolEvent, Program, Refuses, Request, Result, Run, Seen, Send, Some, Stage, State, Take, Tick, Var, Why, [], after_event, after_events, ap, append-nil, append_assoc, arith, body_moves, collected_from, cond, cond_both, empty_pool, eqb-true, false, flat_map, found_both, has, inl, inr, length, line_events, lines, lines_in, live_handle, loop_lines, main_moves, nat_le, nat_lt, nat_tests, next_work, none-some, option_to_list, order_of, pool_events, pool_of, refl, refusal_of, replicate, slice_get, slice_get_within, slice_set, stage_moves, stage_refusal, subst, suc, sym, true, waits, without, work_of, worker_count, zero, ℕ, ◌++◌, ◌+◌, ◌-◌, ◌<◌, ◌==◌, ◌∙◌, ◌∷◌, ◌≡◌, ◌≤◌}
+pub use Rattle.uv_script.proofs.ProofNames.{IsThreadLine, length-append, sum_by-cons, sum_by_push}
+pub use Rattle.uv_session.proofs.Names.{Outcome, Shown, TakesEvent, after, pools, seen_by}
+pub use Rattle.std.proofs.Common.{slice_index}
+pub use Rattle.std.proofs.lemmas.List.{get_or-replicate, length-replicate, length-set}
+pub use Rattle.uv_ids.specs.declared.fault.Why.TheVariants.{NoWork}
 pub use Rattle.uv_live.proofs.Entered.{is_true}
-pub use Rattle.uv_live.specs.Course.{AreNamed, Course, Plan, stepped}
 pub use Rattle.uv_live.specs.Faults.{IsEventFault, IsRunFault, IsStepFault}
-pub use Rattle.uv_live.specs.Following.{Applies, StaysEnded}
 pub use Rattle.uv_live.specs.Running.{RunSettles}
-pub use Rattle.uv_live.specs.Settling.{is_line, is_send}
+pub use Rattle.uv_live.specs.Settling.{is_send}
 pub use Rattle.uv_live.specs.Turning.{Steps}
 pub use Rattle.uv_live.specs.Working.{has_work, is_at_work, open_in}
-pub use Rattle.uv_model.proofs.Found.{found_both}
-pub use Rattle.uv_model.proofs.Refusals.{OfLoop, body_moves, loop_lines, main_moves, stage_moves, stage_refusal}
 pub use Rattle.uv_model.proofs.Runs.{after-moves, seen_by-moves, seen_by-nil}
-pub use Rattle.uv_model.specs.After.{lines, refusal_of}
 pub use Rattle.uv_model.specs.Handing.{RefusesResult}
-pub use Rattle.uv_model.specs.Next.{Moves, Next, Refuses, next_work, work_of}
-pub use Rattle.uv_model.specs.State.{State, live_handle}
 pub use Rattle.uv_model.specs.Steps.{IsOfLoop}
-pub use Rattle.uv_model.specs.declared.machine.Outcome.{Outcome}
-pub use Rattle.uv_model.specs.declared.place.Body.{Body}
-pub use Rattle.uv_model.specs.declared.place.Place.{Place}
-pub use Rattle.uv_model.specs.declared.place.Place.TheVariants.{Main, Running}
-pub use Rattle.uv_model.specs.declared.place.Run.{Run}
-pub use Rattle.uv_model.specs.declared.place.Stage.{Stage}
-pub use Rattle.uv_order.proofs.Documents.{pools}
+pub use Rattle.uv_model.specs.declared.place.Place.TheVariants.{Running}
 pub use Rattle.uv_order.proofs.Taking.{finish_is_taken, take_is_taken}
-pub use Rattle.uv_order.specs.PoolEvents.{line_events, pool_events, pool_of}
-pub use Rattle.uv_order.specs.Taking.{IsTakenAs}
-pub use Rattle.uv_records.specs.declared.handle.HandleRecord.{HandleRecord}
 pub use Rattle.uv_run.specs.Bound.{Asked, IsBound, SameSends, Sends, course_of, hours_in, plan_of, plan_within, polls_in, refusal_in}
 pub use Rattle.uv_run.specs.Counts.{AreCounts, is_end, is_queue}
 pub use Rattle.uv_run.specs.Events.{events_in, events_of_loop, is_polling}
 pub use Rattle.uv_run.specs.declared.counts.Counts.{Counts}
-pub use Rattle.uv_script.specs.Program.{IsThreadLine, Program, lines_in, order_of, worker_count}
-pub use Rattle.uv_script.specs.declared.op.MainOp.{MainOp}
 pub use Rattle.uv_session.proofs.Traces.{is_documented, is_once, those, those_all, those_more}
-pub use Rattle.uv_session.specs.Shown.{Responds, Shown, TakesEvent, TakesResult}
+pub use Rattle.uv_session.specs.Shown.{Responds, TakesResult}
 pub use Rattle.uv_work.proofs.Counts.{busy_set_none, busy_set_some, without_one}
-pub use Rattle.uv_work.specs.Ids.{same_id}
-pub use Rattle.uv_work.specs.Pool.{Done, IsLegal, Pool, after_event, after_events, busy, collected_from, empty_pool, finished_by, has, taken_by}
-pub use Rattle.uv_work.specs.Pool.{waits, without}
-pub use Rattle.uv_work.specs.declared.event.PoolEvent.{PoolEvent}
-pub use Rattle.uv_work.specs.declared.job.Job.{Job}
-pub use Rattle.uv_work.specs.declared.request.Request.{Request}
+pub use Rattle.uv_work.specs.Pool.{Done, busy, finished_by, taken_by}

@@ -1,10 +1,9 @@
 -- What one step more does to what a live run sees of a session.
-use Rattle.uv_run.proofs.Names.{◌≡◌, ℕ, ◌+◌, List, [], ◌∷◌, ◌++◌, length, nat_lt, nat_le, ◌<◌, ◌≤◌, take, Option, Some, None, Result, Ok, Err, refl, ap, sym, subst, ◌∙◌, append_assoc, append-nil, slice_get, cond_both, slice_get_within, none-some, option_to_list, flat_map, Id, Var, Code, Event, Loop, Take, Finish, Send, Tick, Why, Ended, Seen, HandleRecord, MainOp, Program, lines_in, order_of, PoolEvent, Body, Place, Main, Running, Run, Stage, Request, State, live_handle, Next, Moves, Refuses, next_work, work_of, lines, refusal_of, found_both, stage_refusal, stage_moves, body_moves, main_moves, after-moves, seen_by-moves, seen_by-nil, line_events, pool_events, those, those_more, those_all, events_in, is_polling}
+use Rattle.uv_run.proofs.Names.{◌≡◌, ℕ, ◌+◌, List, [], ◌∷◌, ◌++◌, length, nat_lt, nat_le, ◌<◌, ◌≤◌, take, Option, Some, None, Result, Ok, Err, refl, ap, sym, subst, ◌∙◌, append_assoc, append-nil, slice_get, cond_both, slice_get_within, none-some, option_to_list, flat_map, Id, Var, Code, Event, Loop, Take, Finish, Send, Tick, Why, Ended, Seen, HandleRecord, MainOp, Program, lines_in, order_of, PoolEvent, Body, Place, Main, Running, Run, Stage, Request, State, live_handle, Next, Moves, Refuses, next_work, work_of, lines, refusal_of, found_both, stage_refusal, stage_moves, body_moves, main_moves, after-moves, seen_by-moves, seen_by-nil, line_events, pool_events, those, those_more, those_all, events_in, is_polling, after, seen_by}
 use Rattle.uv_model.specs.declared.place.Stage.TheVariants as stage
 use Rattle.uv_model.specs.Ops as ops
 use Rattle.uv_model.specs.Next as step
 use Rattle.uv_model.specs.Next.{next}
-use Rattle.uv_model.specs.After.{after, seen_by}
 use Rattle.uv_run.specs.Events.{events_by, refusal_after, polls_after, hours_after}
 
 -- ---- the pool's events

@@ -1,6 +1,5 @@
 -- A list whose elements are changed one after another, where they stand.
-use Rattle.uv_script.proofs.ProofNames.{◌≡◌, ℕ, ◌+◌, ◌<◌, List, ◌++◌, length, drop, map, get_or, slice_set, ap, ◌∙◌}
-use Rattle.std.proofs.Common.{take}
+use Rattle.uv_script.proofs.ProofNames.{◌≡◌, ℕ, ◌+◌, ◌<◌, List, ◌++◌, length, drop, map, get_or, slice_set, ap, ◌∙◌, take}
 use Rattle.std.proofs.lemmas.List.Edits.{map_over_more}
 
 pub changed_more : {A : Type 0} (f : A → A) (xs ys : List A) (i : ℕ) (x y : A) → i < length xs → ys ≡ map f (take i xs) ++ drop i xs →

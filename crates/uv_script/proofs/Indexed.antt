@@ -1,6 +1,5 @@
 -- The index of a callback's lines.
-use Rattle.uv_script.proofs.ProofNames.{◌≡◌, ◌≢◌, ◌⊎◌, ℕ, suc, ◌+◌, ◌-◌, ◌<◌, ◌≤◌, Bool, true, false, if◌then◌else◌, List, [], ◌∷◌, ◌++◌, length, drop, Option, Some, None, IfSome, slice_get, refl, sym, ap, ◌∙◌, subst, arith, none-some, nat_eq, Ordering, Equal, nat_cmp, ordering_then, is_gt, option_cmp, option_eq, BTreeSet, contains, IsKeyInRange, IsKeyRangeOf, IsLeBy, Included, Unbounded, CallbackLine, next_line, Spot, spot_cmp, is_of, is_line_of, LOOKED_AT, IsIndex, IsNoted, next_of, earlier}
-use Rattle.std.proofs.lemmas.Bool.Decides.{nat_tests}
+use Rattle.uv_script.proofs.ProofNames.{◌≡◌, ◌≢◌, ◌⊎◌, ℕ, suc, ◌+◌, ◌-◌, ◌<◌, ◌≤◌, Bool, true, false, if◌then◌else◌, List, [], ◌∷◌, ◌++◌, length, drop, Option, Some, None, IfSome, slice_get, refl, sym, ap, ◌∙◌, subst, arith, none-some, nat_eq, Ordering, Equal, nat_cmp, ordering_then, is_gt, option_cmp, option_eq, BTreeSet, contains, IsKeyInRange, IsKeyRangeOf, IsLeBy, Included, Unbounded, CallbackLine, next_line, Spot, spot_cmp, is_of, is_line_of, LOOKED_AT, IsIndex, IsNoted, next_of, earlier, nat_tests}
 use Rattle.std.proofs.lemmas.Map.Keys.{le_from_not_gt}
 
 -- ---- one more line

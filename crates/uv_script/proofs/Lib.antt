@@ -12,7 +12,7 @@ pub mod Older
 pub mod OneReading
 pub mod OpWords
 pub mod Places
-mod ProofNames
+pub mod ProofNames
 pub mod ReadBack
 pub mod SameWork
 pub mod SomeReading

@@ -1,12 +1,7 @@
 -- A script whose requests ask for the same work can be written where it could before.
-use Rattle.uv_script.proofs.ProofNames.{◌≡◌, ℕ, ◌<◌, ◌≤◌, ◌^◌, Bool, false, ◌==◌, List, [], ◌∷◌, ◌++◌, length, map, Option, Some, None, Contains, All, AllByRecursion, refl, ap, sym, subst, ◌∙◌, arith, length-append, length-map, append-nil, append_assoc, none-some, sum_by, sum_by-cons, All-append, codes, decimal, decimal_nonempty, length-decimal-le, join_with_byte, Var, Callback, MainOp, Op, CallbackLine, Statement, InMain, InCallback, asks_io, IsOp, queue, callback_word, Says, in_main, in_callback, in_call, fields_of, IsLine, IsReadScript, Program, Callbacks, lines_in, callback_count, line_count, name_text, task_text, op_text, callback_line, front_text, text_of, IsDeclared, Task, MOST_LINES}
-use Rattle.std.proofs.Common.{take}
-use Rattle.std.proofs.Math.Seq.{take-append_seam}
-use Rattle.std.proofs.lemmas.List.Elements.{All-nil, All-take, All-map, All-weaker, All-contains, All-contains_itself}
-use Rattle.std.proofs.lemmas.Option.{slice_get-map}
+use Rattle.uv_script.proofs.ProofNames.{◌≡◌, ℕ, ◌<◌, ◌≤◌, ◌^◌, Bool, false, ◌==◌, List, [], ◌∷◌, ◌++◌, length, map, Option, Some, None, Contains, All, AllByRecursion, refl, ap, sym, subst, ◌∙◌, arith, length-append, length-map, append-nil, append_assoc, none-some, sum_by, sum_by-cons, All-append, codes, decimal, decimal_nonempty, length-decimal-le, join_with_byte, Var, Callback, MainOp, Op, CallbackLine, Statement, InMain, InCallback, asks_io, IsOp, queue, callback_word, Says, in_main, in_callback, in_call, fields_of, IsLine, IsReadScript, Program, Callbacks, lines_in, callback_count, line_count, name_text, task_text, op_text, callback_line, front_text, text_of, IsDeclared, Task, MOST_LINES, take, take-append_seam, All-nil, All-take, All-map, All-weaker, All-contains, All-contains_itself, slice_get-map, least_task, same_op, same_line, same_main, same_callbacks, same_work}
 use Rattle.uv_script.specs.declared.op.Op.TheVariants as op
 use Rattle.uv_script.specs.declared.op.MainOp.TheVariants as main
-use Rattle.uv_script.specs.SameWork.{least_task, same_op, same_line, same_main, same_callbacks, same_work}
 use Rattle.uv_script.proofs.Cuts.{fields-cut, fields-last, AreNot}
 use Rattle.uv_script.proofs.Exact.{statement_text, IsKept, says_exact}
 use Rattle.uv_script.proofs.Kept.{whole}

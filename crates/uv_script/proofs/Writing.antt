@@ -1,10 +1,6 @@
 -- Texts that are written a piece at a time.
-use Rattle.std.specs.Prelude.{⊤}
-use Rattle.std.proofs.Common.{take}
-use Rattle.std.proofs.lemmas.List.{take-append-drop, take_more}
+use Rattle.uv_script.proofs.ProofNames.{⊤, take, take-append-drop, take_more, ◌≡◌, ℕ, suc, arith, codes, slice_get-get_or, Program, name_text, var_line, callback_lines, name_lines, ◌+◌, ◌<◌, length, map, drop, get_or, drop-cons, map-append, lines_text, List, [], ◌∷◌, ◌++◌, Result, Ok, Err, refl, ap, ap₂, sym, subst, ◌∙◌, append_assoc, append-nil, CutShort, Writes}
 use Rattle.uv_script.proofs.Texts.{lines_text-append, callbacks_turn}
-use Rattle.uv_script.proofs.ProofNames.{◌≡◌, ℕ, suc, arith, codes, slice_get-get_or, Program, name_text, var_line, callback_lines, name_lines, ◌+◌, ◌<◌, length, map, drop, get_or, drop-cons, map-append, lines_text, List, [], ◌∷◌, ◌++◌, Result, Ok, Err, refl, ap, ap₂, sym, subst, ◌∙◌, append_assoc, append-nil}
-use Rattle.uv_script.specs.Writes.{CutShort, Writes}
 
 -- a text begins another one
 abbrev pub Begins : List ℕ → List ℕ → Type 0

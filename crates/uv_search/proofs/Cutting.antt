@@ -1,10 +1,6 @@
 -- Byte strings in two parts: which one a pair is, and one pair more.
-use Rattle.std.proofs.Common.{◌≡◌, ℕ, zero, suc, ◌/◌, ◌<◌, ◌≤◌, Bool, true, false, List, [], ◌∷◌, ◌++◌, length, map, Result, IfOk, OnErr, refl, sym, ap, subst, ◌∙◌, inl, inr, Some, slice_get, slice_index_or, take, drop, nat_eq, arith, true≢false}
-use Rattle.std.proofs.lemmas.Option.{slice_get-get_or}
-use Rattle.std.specs.List.{AllByRecursion, IsDistinct}
-use Rattle.std.specs.Cmp.Lexicographic.{pointwise, bytes_decides, nat_list_eq_equiv}
-use Rattle.uv_search.specs.Cuts.{IsCut, IsEntered, IsOnce, KeepsNumbers, joined}
-use Rattle.uv_search.specs.Keys.{Has}
+use Rattle.uv_search.proofs.Names.{◌≡◌, ℕ, zero, suc, ◌/◌, ◌<◌, ◌≤◌, Bool, true, false, List, [], ◌∷◌, ◌++◌, length, map, Result, IfOk, OnErr, refl, sym, ap, subst, ◌∙◌, inl, inr, Some, slice_get, slice_index_or, take, drop, nat_eq, arith, true≢false, slice_get-get_or, AllByRecursion, pointwise, bytes_decides, nat_list_eq_equiv, IsCut, IsEntered, IsOnce, KeepsNumbers, joined, Has}
+use Rattle.std.specs.List.{IsDistinct}
 use Rattle.uv_search.proofs.KeyLists.{get_below, get_before, get_either, number_of, map_last}
 use Rattle.uv_search.proofs.Linking.{get_map}
 

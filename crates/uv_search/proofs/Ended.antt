@@ -1,10 +1,6 @@
 -- What the keys tell that were seen, where all that has to be is done.
-use Rattle.std.proofs.Common.{◌≡◌, ℕ, zero, suc, ◌+◌, ◌-◌, ◌<◌, ◌≤◌, Bool, true, false, ◌⊎◌, inl, inr, List, [], ◌∷◌, ◌++◌, length, refl, sym, subst, length-append, ◌∙◌, Option, Some, nat_eq, arith}
+use Rattle.uv_search.proofs.Names.{◌≡◌, ℕ, zero, suc, ◌+◌, ◌-◌, ◌<◌, ◌≤◌, Bool, true, false, ◌⊎◌, inl, inr, List, [], ◌∷◌, ◌++◌, length, refl, sym, subst, length-append, ◌∙◌, Option, Some, nat_eq, arith, pointwise, Has, LeadTo, Answers, CoversMoves, CoversStep, IsApart, IsCovered, AllLead, OneLeads, Never, HoldsNone}
 use Rattle.std.specs.List.{IsDistinct}
-use Rattle.std.specs.Cmp.Lexicographic.{pointwise}
-use Rattle.uv_search.specs.Keys.{Has}
-use Rattle.uv_search.specs.Ways.{LeadTo, Answers, CoversMoves, CoversStep, IsApart, IsCovered}
-use Rattle.uv_search.specs.Settled.{AllLead, OneLeads, Never, HoldsNone}
 use Rattle.uv_search.proofs.KeyLists.{number_of}
 use Rattle.uv_search.proofs.Held.{Ends, ends_by, same_step, room_for, ends_alike, ends_behind}
 use Rattle.uv_search.proofs.Standing.{Done, IsDone, Keeps, here_done, none_made, are_keys}

@@ -1,8 +1,7 @@
 -- Where a move is apart from all others these may be held back: an answer behind them is one behind it.
-use Rattle.std.proofs.Common.{◌≡◌, ℕ, zero, suc, ◌+◌, ◌-◌, ◌==◌, ◌<◌, ◌≤◌, Bool, true, false, ◌||◌, ◌⊎◌, inl, inr, List, [], ◌∷◌, ◌++◌, length, refl, sym, ap, subst, ◌∙◌, Option, Some, None, arith}
+use Rattle.uv_search.proofs.Names.{◌≡◌, ℕ, zero, suc, ◌+◌, ◌-◌, ◌==◌, ◌<◌, ◌≤◌, Bool, true, false, ◌||◌, ◌⊎◌, inl, inr, List, [], ◌∷◌, ◌++◌, length, refl, sym, ap, subst, ◌∙◌, Option, Some, None, arith, LeadTo, CoversMoves, CoversStep, Meet, IsApart}
 use Rattle.std.proofs.lemmas.Bool.{eq-eqb, eqb-true}
 use Rattle.uv_search.specs.Ways as ways
-use Rattle.uv_search.specs.Ways.{LeadTo, CoversMoves, CoversStep, Meet, IsApart}
 
 module _ {P : Type 0} (moves : P → ℕ) (next : P → ℕ → Option (P × Bool)) where
   abbrev pub Ends : P → List ℕ → Type 0

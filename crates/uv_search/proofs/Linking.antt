@@ -1,7 +1,5 @@
 -- Rows that are linked by their places: one more, and the walk from the last row of a place to the first one.
-use Rattle.std.proofs.Common.{◌≡◌, ℕ, zero, suc, ◌<◌, ◌≤◌, List, [], ◌∷◌, ◌++◌, length, map, refl, sym, ap, subst, ◌∙◌, inl, inr, ◌⊎◌, Some, slice_get, slice_set, arith, ◌+◌, ◌-◌, length-append}
-use Rattle.std.proofs.lemmas.List.{length-map}
-use Rattle.uv_search.specs.Chains.{AreLinked, Leads, Linked, place_of}
+use Rattle.uv_search.proofs.Names.{◌≡◌, ℕ, zero, suc, ◌<◌, ◌≤◌, List, [], ◌∷◌, ◌++◌, length, map, refl, sym, ap, subst, ◌∙◌, inl, inr, ◌⊎◌, Some, slice_get, slice_set, arith, ◌+◌, ◌-◌, length-append, length-map, AreLinked, Leads, Linked, place_of}
 use Rattle.uv_search.proofs.KeyLists.{get_last, get_below, get_other, map_last, set_long}
 
 pub get_map : {X Y : Type 0} (f : X → Y) (xs : List X) (i : ℕ) (x : X) → slice_get xs i ≡ Some x → slice_get (map f xs) i ≡ Some (f x)

@@ -1,11 +1,5 @@
 -- The keys that a round keeps.
-use Rattle.std.proofs.Common.{◌≡◌, ℕ, ◌<◌, Bool, true, false, inl, inr, List, [], ◌∷◌, ◌++◌, length-append, refl, sym, subst, Option, Some, arith}
-use Rattle.uv_search.specs.Entering.{Enters}
-use Rattle.uv_search.specs.Keys.{Has}
-use Rattle.uv_search.specs.Settled.{AreFew}
-use Rattle.uv_search.specs.Ways.{CanLead}
-use Rattle.uv_search.specs.declared.seen.Entered.{Entered}
-use Rattle.uv_search.specs.declared.seen.Entered.TheVariants.{There, New, Full}
+use Rattle.uv_search.proofs.Names.{◌≡◌, ℕ, ◌<◌, Bool, true, false, inl, inr, List, [], ◌∷◌, ◌++◌, length-append, refl, sym, subst, Option, Some, arith, Enters, Has, AreFew, CanLead, Entered, There, New, Full}
 use Rattle.uv_search.proofs.KeyLists.{kept, new_one, number_of, get_either, has_at}
 use Rattle.uv_search.proofs.Retracing.{leads_on}
 

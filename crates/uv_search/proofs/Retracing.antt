@@ -1,10 +1,6 @@
 -- Moves that are made one after another, and taken back.
-use Rattle.std.proofs.Common.{◌≡◌, ℕ, zero, suc, ◌+◌, ◌<◌, ◌≤◌, Bool, true, false, List, [], ◌∷◌, ◌++◌, length, take, drop, refl, sym, ap, ap₂, subst, length-append, ◌∙◌, Option, Some, None, arith, get_or, inl, inr}
-use Rattle.std.proofs.lemmas.List.{take_more}
-use Rattle.uv_search.specs.Ways.{LeadTo, LeadPast, IsMade, Tries}
+use Rattle.uv_search.proofs.Names.{◌≡◌, ℕ, zero, suc, ◌+◌, ◌<◌, ◌≤◌, Bool, true, false, List, [], ◌∷◌, ◌++◌, length, take, drop, refl, sym, ap, ap₂, subst, length-append, ◌∙◌, Option, Some, None, arith, get_or, inl, inr, take_more, LeadTo, LeadPast, IsMade, Tries, Has, IsPassed, IsWay}
 use Rattle.uv_search.specs.declared.shortening.Tried.TheVariants as tried
-use Rattle.uv_search.specs.Keys.{Has}
-use Rattle.uv_search.specs.Settled.{IsPassed, IsWay}
 
 module _ {X : Type 0} where
   -- one more is dropped

@@ -1,13 +1,11 @@
 -- The first timer is collected, if it is due.
-use Rattle.uv_sections.proofs.Names.{◌≡◌, ◌≢◌, ℕ, List, [], ◌∷◌, ◌++◌, map, drop, Some, refl, sym, ap, ◌∙◌, map-append, Id, HandleRecord, ListName, without_none, record_at, CollectUndo, Entry, cleared, id_in, Place, collected, members, State, IsReached, Record, handle_of, By, moved_by, IsFit, Image, Held, timed_of, OnlyTimed, StandsFor, timer_in, slots_set, ids_kept, map_same, all_but_one, Listed, IsOn, held_handle, own_id, absent_active, start_is, time_is, OfEach, first_due}
+use Rattle.uv_sections.proofs.Names.{◌≡◌, ◌≢◌, ℕ, List, [], ◌∷◌, ◌++◌, map, drop, Some, refl, sym, ap, ◌∙◌, map-append, Id, HandleRecord, ListName, without_none, record_at, CollectUndo, Entry, cleared, id_in, Place, collected, members, State, IsReached, Record, handle_of, By, moved_by, IsFit, Image, Held, timed_of, OnlyTimed, StandsFor, timer_in, slots_set, ids_kept, map_same, all_but_one, Listed, IsOn, held_handle, own_id, absent_active, start_is, time_is, OfEach, first_due, cleared_first, retimed, AreRetimed, stands_then, timers_are}
 use Rattle.uv_work.specs.declared.content.Content.TheVariants.{Handle}
 use Rattle.uv_timer.specs.Timers.{IsCollected}
 use Rattle.uv_records.specs.declared.lists.ListName.TheVariants as name
 use Rattle.uv_records.specs.Handles as records
 use Rattle.uv_arena.specs.Image as arena
 use Rattle.uv_sections.proofs.DueFirst.{begun, begins_with, its, due_first}
-use Rattle.uv_stands.proofs.Entries.{cleared_first}
-use Rattle.uv_stands.proofs.Retimed.{retimed, AreRetimed, stands_then, timers_are}
 
 -- the first timer is due, and is set aside
 abbrev pub Collects : Image Place → Image Place → Id → Type 0

@@ -1,8 +1,7 @@
 -- The first timer of the order, if it is due: so the memory says, and so it is in the state.
-use Rattle.uv_sections.proofs.Names.{◌≡◌, inl, ℕ, ◌≤◌, Bool, true, false, if◌then◌else◌, cond, nat_le, List, [], ◌∷◌, map, slice_get, Some, None, refl, sym, ap, ◌∙◌, subst, arith, le-leb, leb-true, sum_by-cons, Id, HandleRecord, record_at, Entry, IsHeap, is_same, IsInOrder, IsBeforeAll, first_is_root, none_in_empty, same_itself, IsDue, NoneIsDue, id_in, Place, first_due, State, handle, with_id, InOrder, Has, IsReached, handle_of, Image, StandsFor, timer_in, state_handle, CollectsNone, Content, own_id, holds_it, time_is}
+use Rattle.uv_sections.proofs.Names.{◌≡◌, inl, ℕ, ◌≤◌, Bool, true, false, if◌then◌else◌, cond, nat_le, List, [], ◌∷◌, map, slice_get, Some, None, refl, sym, ap, ◌∙◌, subst, arith, le-leb, leb-true, sum_by-cons, Id, HandleRecord, record_at, Entry, IsHeap, is_same, IsInOrder, IsBeforeAll, first_is_root, none_in_empty, same_itself, IsDue, NoneIsDue, id_in, Place, first_due, State, handle, with_id, InOrder, Has, IsReached, handle_of, Image, StandsFor, timer_in, state_handle, CollectsNone, Content, own_id, holds_it, time_is, IsIts, its_timer}
 use Rattle.uv_arena.specs.Image as arena
 use Rattle.uv_stands.proofs.First.{before_all}
-use Rattle.uv_stands.proofs.TakenOff.{IsIts, its_timer}
 
 -- ---- the first of the order
 

@@ -1,14 +1,10 @@
 -- The front of the timers that are set aside is called: it is off their list, and set again if it repeats.
-use Rattle.uv_sections.proofs.Names.{◌≡◌, ◌≢◌, inl, inr, ℕ, ◌+◌, ◌==◌, ◌&&◌, Bool, true, false, if◌then◌else◌, eqb, List, ◌∷◌, map, drop, slice_get, Option, Some, None, option_and_then, refl, sym, ap, ◌∙◌, subst, both_ways, eqb-true, set-set, same_Some, Id, Due, HandleRecord, ListName, Slot, is_timer, begun_at, without, IsFirst, IsIn, record_at, inserted, Times, TimerUndo, becoming, set_at, starting, firing, Timed, IsRescheduled, IsFired, NoneIsReady, cleared, id_in, set_back, Place, members, State, front, with_id, taken_off, with_timer, without_timer, started, restarted, due_after, IsReached, IsSetAside, Content, handle_of, Image, Held, timed_of, OnlyTimed, StandsFor, timer_in, state_handle, slots_set, map_same, Listed, all_but_one, beside_lists, record_there, front_there, FiresNone, IsOn, holds_it, has_it, start_is, time_is, OfEach, Var}
+use Rattle.uv_sections.proofs.Names.{◌≡◌, ◌≢◌, inl, inr, ℕ, ◌+◌, ◌==◌, ◌&&◌, Bool, true, false, if◌then◌else◌, eqb, List, ◌∷◌, map, drop, slice_get, Option, Some, None, option_and_then, refl, sym, ap, ◌∙◌, subst, both_ways, eqb-true, set-set, same_Some, Id, Due, HandleRecord, ListName, Slot, is_timer, begun_at, without, IsFirst, IsIn, record_at, inserted, Times, TimerUndo, becoming, set_at, starting, firing, Timed, IsRescheduled, IsFired, NoneIsReady, cleared, id_in, set_back, Place, members, State, front, with_id, taken_off, with_timer, without_timer, started, restarted, due_after, IsReached, IsSetAside, Content, handle_of, Image, Held, timed_of, OnlyTimed, StandsFor, timer_in, state_handle, slots_set, map_same, Listed, all_but_one, beside_lists, record_there, front_there, FiresNone, IsOn, holds_it, has_it, start_is, time_is, OfEach, Var, entry_of, retimed, OnlyTimers, AreRetimed, stands_then, timers_are, due_same, inert_cleared, timers_set}
 use Rattle.uv_work.specs.declared.content.Content.TheVariants.{Handle}
 use Rattle.uv_records.specs.declared.lists.ListName.TheVariants as name
 use Rattle.uv_records.specs.Slots as plain
 use Rattle.uv_arena.specs.Image as arena
-use Rattle.uv_stands.proofs.Entries.{entry_of}
-use Rattle.uv_stands.proofs.Retimed.{retimed, OnlyTimers, AreRetimed, stands_then, timers_are}
-use Rattle.uv_stands.proofs.Starts.{due_same}
 use Rattle.uv_stands.proofs.Stops.{ids_rescheduled}
-use Rattle.uv_stands.proofs.TakenOff.{inert_cleared, timers_set}
 
 -- the front of those that are set aside, of this name, is called, and set again if it repeats
 abbrev pub Fires : Image Place → Image Place → Id → Var → Type 0

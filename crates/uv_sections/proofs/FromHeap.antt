@@ -1,9 +1,8 @@
 -- The first timer, if it is due, is called straight from the heap.
-use Rattle.uv_sections.proofs.Names.{◌≡◌, refl, ap, Id, HandleRecord, is_timer, TimerChange, starting_again, IsRescheduled, IsDue, Record, handle_of, By, IsFit, Held, timed_of, OnlyTimed, active_open, Place, OfEach, Var, StandsFor, restarted, stopped, first_due, Some, Image}
+use Rattle.uv_sections.proofs.Names.{◌≡◌, refl, ap, Id, HandleRecord, is_timer, TimerChange, starting_again, IsRescheduled, IsDue, Record, handle_of, By, IsFit, Held, timed_of, OnlyTimed, active_open, Place, OfEach, Var, StandsFor, restarted, stopped, first_due, Some, Image, restart_does}
 use Rattle.uv_work.specs.declared.content.Content.TheVariants.{Handle}
 use Rattle.uv_memory.specs.Change as change
 use Rattle.uv_sections.proofs.DueFirst.{its, due_first}
-use Rattle.uv_stands.proofs.Starts.{restart_does}
 
 -- the first timer, of this name, is due, and is called straight from the heap: it is stopped, and set again if it repeats
 abbrev pub CallsFirst : Image Place → Image Place → Id → Var → Type 0

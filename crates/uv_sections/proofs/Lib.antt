@@ -11,5 +11,5 @@ pub mod FromHeap
 pub mod Gone
 pub mod Keeping
 pub mod Moves
-mod Names
+pub mod Names
 pub mod Watched

@@ -3,13 +3,9 @@ use Rattle.uv_session.proofs.Names.{◌≡◌, ◌<◌, ◌≤◌, ℕ, List, le
 
 responds : (limit : ℕ) (p : Program) (es fs : List Event) (k : ℕ) (job : Job) (f : Fault) → length es < limit → limit ≤ STEPS →
     AnswersResult STEPS p es k job (Err f) fs → RespondsResult limit p es k job (Err f) es
-responds limit p es fs k job Memory few low h = (few, refl)
-responds limit p es fs k job (Refused why) few low h = (few, refl, h.2)
-responds limit p es fs k job StepsFull few low h = absurd (omega (arith, few, low, h.0))
-responds limit p es fs k job _ few low h = absurd h
+responds limit p es fs k job f few low h = grind arith
 
 -- the machine's fault is the session's, where the machine stands at the same steps
 pub responds_err : (limit : ℕ) (p : Program) (ms es fs : List Event) (k : ℕ) (job : Job) (f : Fault) → ms ≡ es → length es < limit →
     limit ≤ STEPS → AnswersResult STEPS p ms k job (Err f) fs → RespondsResult limit p es k job (Err f) es
-responds_err limit p ms es fs k job f same few low h =
-    responds limit p es fs k job f few low (subst (λ (xs : List Event). AnswersResult STEPS p xs k job (Err f) fs) same h)
+responds_err limit p ms es fs k job f same few low h = grind (arith, responds)

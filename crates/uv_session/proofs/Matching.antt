@@ -6,31 +6,22 @@ use Rattle.uv_session.specs.declared.breaks.Break.TheVariants as at
 
 -- ---- tests of a list
 
-any_same : {A : Type 0} (f g : A → Bool) (xs : List A) → ((x : A) → f x ≡ g x) → list_any f xs ≡ list_any g xs
-any_same f g [] same = refl
-any_same f g (x ∷ xs) same = ap₂ (λ (a b : Bool). a || b) (same x) (any_same f g xs same)
-
 any_none : {A : Type 0} (f : A → Bool) (xs : List A) → ((x : A) → f x ≡ false) → list_any f xs ≡ false
 any_none f [] none = refl
 any_none f (x ∷ xs) none = ap₂ (λ (a b : Bool). a || b) (none x) (any_none f xs none)
 
 by_pairs : (a b c d : Bool) → ((a || b) || (c || d)) ≡ ((a || c) || (b || d))
-by_pairs true b c d = refl
-by_pairs false true true d = refl
-by_pairs false true false d = refl
-by_pairs false false c d = refl
+by_pairs a b c d = grind arith
 
 any_or : {A : Type 0} (f g : A → Bool) (xs : List A) → list_any (λ x. f x || g x) xs ≡ (list_any f xs || list_any g xs)
 any_or f g [] = refl
 any_or f g (x ∷ xs) = ap (λ (b : Bool). (f x || g x) || b) (any_or f g xs) ∙ by_pairs (f x) (g x) (list_any f xs) (list_any g xs)
 
 or_false : (b : Bool) → (b || false) ≡ b
-or_false true = refl
-or_false false = refl
+or_false b = grind arith
 
 or_true : (b : Bool) → (b || true) ≡ true
-or_true true = refl
-or_true false = refl
+or_true b = grind arith
 
 -- one more, that passes the test or doesn't
 any_push : {A : Type 0} (f : A → Bool) (xs : List A) (x : A) → list_any f (xs ++ x ∷ []) ≡ (list_any f xs || f x)
@@ -104,23 +95,13 @@ section_put (Err e) y names codes sections more polls put = tt
 -- a line that nothing matches
 none_matches : (l : Seen) (bs : List Break) → ((v : Var) → matches (at.Call v) l ≡ false) → ((c : Code) → matches (at.Code c) l ≡ false)
     → ((x : Phase) → matches (at.Section x) l ≡ false) → matches at.Poll l ≡ false → false ≡ list_any (λ (b : Break). matches b l) bs
-none_matches l bs calls codes sections poll = sym (any_none (λ (b : Break). matches b l) bs each) where
-  each : (b : Break) → matches b l ≡ false
-  each (at.Call v) = calls v
-  each (at.Code c) = codes c
-  each (at.Section x) = sections x
-  each at.Poll = poll
+none_matches l bs calls codes sections poll = grind (arith, any_none)
 
 -- a line that is held against some of them
 some_match : (f : Break → Bool) (l : Seen) (bs : List Break) → ((v : Var) → f (at.Call v) ≡ matches (at.Call v) l)
     → ((c : Code) → f (at.Code c) ≡ matches (at.Code c) l) → ((x : Phase) → f (at.Section x) ≡ matches (at.Section x) l)
     → f at.Poll ≡ matches at.Poll l → list_any f bs ≡ list_any (λ (b : Break). matches b l) bs
-some_match f l bs calls codes sections poll = any_same f (λ (b : Break). matches b l) bs each where
-  each : (b : Break) → f b ≡ matches b l
-  each (at.Call v) = calls v
-  each (at.Code c) = codes c
-  each (at.Section x) = sections x
-  each at.Poll = poll
+some_match f l bs calls codes sections poll = grind arith
 
 pub run_matches : (m : Mode) (bs : List Break) → false ≡ list_any (λ (b : Break). matches b (seen.Run m)) bs
 run_matches m bs = none_matches (seen.Run m) bs (λ v. refl) (λ c. refl) (λ x. refl) refl

@@ -19,9 +19,7 @@ rest k n es l m = rw (length-first k es m) (
 
 pub split_moved : (p : Program) (limit : ℕ) (breaks : List Break) (k n : ℕ) (es : List Event) → n ≤ k → k ≤ length es →
     split p limit breaks (k - n) es ≡ moved_back n (split p limit breaks k es)
-split_moved p limit breaks k n es l m =
-    ap₂ (λ (xs ys : List Event). record { program = p; limit = limit; standing = xs; taken_back = ys; breaks = breaks })
-    (first k n es l m) (rest k n es l m)
+split_moved p limit breaks k n es l m = simp (ap₂, first, rest)
 
 -- one step more
 pub moved_more : (s : Shown) (n : ℕ) → n < length s.standing → moved_back 1 (moved_back n s) ≡ moved_back (n + 1) s
@@ -30,33 +28,15 @@ moved_more s n l =
     let same : length s.standing - (n + 1) ≡ k - 1 = omega arith in
     let low : 1 ≤ k = omega arith in
     let high : k ≤ length s.standing = omega arith in
-    rw same (ap₂ (λ (xs ys : List Event). record {
-      program = s.program;
-      limit = s.limit;
-      standing = xs;
-      taken_back = ys;
-      breaks = s.breaks;
-    })
-    (sym (first k 1 s.standing low high))
-    (sym (append_assoc _ (drop k s.standing) s.taken_back) ∙ ap (λ (xs : List Event). xs ++ s.taken_back) (sym (rest k 1 s.standing low high))))
+    rw same (search (ap₂, first, append_assoc, drop, rest))
 
 drop_none : (n : ℕ) → ◌≡◌ {A = List Event} (drop n []) []
-drop_none zero = refl
-drop_none (suc n) = refl
+drop_none n = grind arith
 
 drop_more : (k n : ℕ) (es : List Event) → drop (k + n) es ≡ drop n (drop k es)
-drop_more zero n es = let same : 0 + n ≡ n = omega arith in rw same refl
-drop_more (suc k) n [] = drop_none (suc k + n) ∙ sym (drop_none n)
 drop_more (suc k) n (e ∷ es) = let same : suc k + n ≡ suc (k + n) = omega arith in rw same (drop_more k n es)
+drop_more each n e2 = grind (arith, drop_none, suc)
 
 -- and one more
 pub forward_more : (s : Shown) (n : ℕ) → moved_forward 1 (moved_forward n s) ≡ moved_forward (n + 1) s
-forward_more s n = ap₂ (λ (xs ys : List Event). record {
-  program = s.program;
-  limit = s.limit;
-  standing = xs;
-  taken_back = ys;
-  breaks = s.breaks;
-})
-    (append_assoc s.standing (take n s.taken_back) (take 1 (drop n s.taken_back)) ∙ ap (λ (es : List Event). s.standing ++ es)
-    (sym (take-add n 1 s.taken_back))) (sym (drop_more n 1 s.taken_back))
+forward_more s n = simp (ap₂, append_assoc, take, drop, take-add, drop_more)

@@ -1,7 +1,5 @@
 -- The lines of the first steps, one step after another.
-use Rattle.uv_session.proofs.Names.{◌≡◌, ℕ, ◌+◌, ◌<◌, ◌≤◌, List, [], ◌∷◌, ◌++◌, length, take, Option, Some, refl, ap, sym, subst, ◌∙◌, append_assoc, append-nil, take_more, take_all, get_or_from_slice_get, slice_get, option_to_list, flat_map, Event, Seen, Program, worker_count, IsLegal, lines, length-seen_by, lines-history, Once, pool_events, pool_of, documented, once, pools, Shown}
-use Rattle.uv_work.specs.Pool.{replay}
-use Rattle.uv_model.specs.After.{after, seen_by}
+use Rattle.uv_session.proofs.Names.{◌≡◌, ℕ, ◌+◌, ◌<◌, ◌≤◌, List, [], ◌∷◌, ◌++◌, length, take, Option, Some, refl, ap, sym, subst, ◌∙◌, append_assoc, append-nil, take_more, take_all, get_or_from_slice_get, slice_get, option_to_list, flat_map, Event, Seen, Program, worker_count, IsLegal, lines, length-seen_by, lines-history, Once, pool_events, pool_of, documented, once, pools, Shown, replay, after, seen_by}
 use Rattle.uv_session.specs.Shown.{IsDocumented}
 
 -- the lines that are there
@@ -10,8 +8,7 @@ those xs = flat_map option_to_list xs
 
 those-append : (xs ys : List (Option Seen)) → those (xs ++ ys) ≡ those xs ++ those ys
 those-append [] ys = refl
-those-append (x ∷ xs) ys = ap (λ (zs : List Seen). option_to_list x ++ zs) (those-append xs ys)
-    ∙ sym (append_assoc (option_to_list x) (those xs) (those ys))
+those-append (x ∷ xs) ys = simp (option_to_list, append_assoc, (those-append xs ys))
 
 -- one step more
 pub those_more : (xs : List (Option Seen)) (i : ℕ) (x : Option Seen) → slice_get xs i ≡ Some x → i < length xs →

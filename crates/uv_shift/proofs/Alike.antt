@@ -1,9 +1,6 @@
 -- A step of a state is that of its earliest form, later.
-use Rattle.uv_alike.proofs.Names.{◌≡◌, ap, sym, ◌∙◌, Event, Program, State}
-use Rattle.uv_shift.proofs.Names.{subst}
+use Rattle.uv_shift.proofs.Names.{◌≡◌, ap, sym, ◌∙◌, Event, Program, State, subst, shift_next, TimesFit, ClockFits, base, earliest, IsTimed}
 use Rattle.uv_model.specs.Next.{next}
-use Rattle.uv_shift.specs.Shift.{shift_next, TimesFit, ClockFits}
-use Rattle.uv_shift.specs.Earliest.{base, earliest, IsTimed}
 use Rattle.uv_shift.proofs.Steps.{next_shift}
 use Rattle.uv_shift.proofs.Base.{earliest_later}
 

@@ -1,13 +1,6 @@
 -- The earliest form of a state, and that of the state once all its times are later.
-use Rattle.uv_alike.proofs.Names.{◌≡◌, ℕ, ◌+◌, List, [], ◌∷◌, Option, Some, slice_get, refl, ap, ◌∙◌, arith, Id, Due, HandleRecord, Slot, Content, State, held, id_of, Place}
-use Rattle.uv_shift.proofs.Names.{◌-◌, ◌≤◌, subst}
-use Rattle.std.proofs.Common.{inl, inr}
-use Rattle.std.specs.Prelude.{map, option_map, min}
+use Rattle.uv_shift.proofs.Names.{◌≡◌, ℕ, ◌+◌, List, [], ◌∷◌, Option, Some, slice_get, refl, ap, ◌∙◌, arith, Id, Due, HandleRecord, Slot, Content, State, held, id_of, Place, ◌-◌, ◌≤◌, subst, inl, inr, map, option_map, min, Before, Has, AreTimers, Retiming, retimed_due, retimed_content, retimed_entry, retimed_place, retimed, By, later, shift, earlier, or_first, or_over, least_start, base, earliest}
 use Rattle.uv_work.specs.declared.content.Content.TheVariants as content
-use Rattle.uv_order.specs.Active.{Before, Has, AreTimers}
-use Rattle.uv_shift.specs.Retimed.{Retiming, retimed_due, retimed_content, retimed_entry, retimed_place, retimed}
-use Rattle.uv_shift.specs.Shift.{By, later, shift}
-use Rattle.uv_shift.specs.Earliest.{earlier, or_first, or_over, least_start, base, earliest}
 use Rattle.uv_shift.proofs.Later.{shift_entry}
 use Rattle.uv_shift.proofs.Retimed.{both, twice, handle_same, slots_same}
 

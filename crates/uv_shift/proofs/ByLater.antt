@@ -1,17 +1,11 @@
 -- All times later are a change of the state: a step goes as it does.
-use Rattle.uv_alike.proofs.Names.{◌≡◌, ◌∙◌, ℕ, ◌+◌, ◌&&◌, ◌<◌, Bool, true, Option, Some, None, refl, ap, ap₂, sym, arith, list_any, nat_le, Id, Due, due_cmp, Kind, Slot, Content, State, Program, named, live, arena_size, held, Place, Main, Running, Body, Moves, Seen, Event, Take, Finish, Tick}
-use Rattle.std.specs.Prelude.{map, option_map, ◌^◌, ◌-◌}
+use Rattle.uv_shift.proofs.Names.{◌≡◌, ◌∙◌, ℕ, ◌+◌, ◌&&◌, ◌<◌, Bool, true, Option, Some, None, refl, ap, ap₂, sym, arith, nat_le, Id, Due, Slot, Content, State, Program, named, live, arena_size, held, Place, Moves, Seen, Event, Take, Finish, Tick, map, option_map, ◌^◌, ◌-◌, is_timer, content_keeps, content_pends, is_used, Next, Refuses, By, shift, shift_line, shift_next, ClockFits, list_any, due_cmp, Kind, Main, Running, Body, Change, same, Comes, changed, changed_content, changed_live, changed_body, changed_place, changed_line, changed_next, Hides, IsWhole, IsExact}
 use Rattle.std.proofs.lemmas.List.{map-id}
 use Rattle.uv_script.specs.declared.op.Op.TheVariants as op
 use Rattle.uv_records.specs.Dues.{due_after}
-use Rattle.uv_records.specs.Handles.{is_timer}
 use Rattle.uv_work.specs.declared.content.Content.TheVariants as content
-use Rattle.uv_model.specs.Content.{content_keeps, content_pends, is_used}
-use Rattle.uv_model.specs.Next.{Next, Refuses, next}
-use Rattle.uv_shift.specs.Shift.{By, shift, shift_line, shift_next, ClockFits}
+use Rattle.uv_model.specs.Next.{next}
 use Rattle.uv_shift.proofs.Later.{CanShift, shift_due, shift_if, shift_content, shift_place}
-use Rattle.uv_alike.specs.Changed.{Change, same, Comes, changed, changed_content, changed_live, changed_body, changed_place, changed_line, changed_next}
-use Rattle.uv_alike.specs.Hides.{Hides, IsWhole, IsExact}
 use Rattle.uv_alike.proofs.Same.{work_same, option_same, any_same, lines_same, lists_same, main_same, event_same, runs_same}
 use Rattle.uv_alike.proofs.Mapped.{slot_of, held_mapped, turns_mapped, finds_mapped, takes_mapped, frees_mapped, live_mapped}
 use Rattle.uv_alike.proofs.Exact.{next_exact}

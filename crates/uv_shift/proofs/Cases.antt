@@ -1,5 +1,5 @@
 -- What is chosen, where both ways go on alike.
-use Rattle.uv_alike.proofs.Names.{◌≡◌, Bool, true, false, if◌then◌else◌}
+use Rattle.uv_shift.proofs.Names.{◌≡◌, Bool, true, false, if◌then◌else◌}
 
 if_cases : {A B : Type 0} (S : A → B) (b : Bool) (x y : A) (x' y' : B) → x' ≡ S x → y' ≡ S y →
     (if b then x' else y') ≡ S (if b then x else y)

@@ -1,10 +1,5 @@
 -- The parts of a state whose times are later.
-use Rattle.uv_alike.proofs.Names.{◌≡◌, ◌+◌, ◌<◌, true, Bool, Some, Id, Due, Op, HandleRecord, Slot, Content, Place, Program, State, handle, front}
-use Rattle.uv_shift.proofs.Names.{◌^◌, first_due, is_timer}
-use Rattle.uv_shift.specs.Retimed.{retimed_due, retimed_if, retimed_handle, retimed_content, retimed_slot, retimed_entry, retimed_place}
-use Rattle.uv_ids.specs.declared.seen.Site.{Site}
-use Rattle.uv_script.specs.Program.{op_at}
-use Rattle.uv_shift.specs.Shift.{By, later, FitsOp}
+use Rattle.uv_shift.proofs.Names.{◌≡◌, ◌+◌, ◌<◌, true, Bool, Some, Id, Due, Op, HandleRecord, Slot, Content, Place, Program, State, handle, front, ◌^◌, first_due, is_timer, retimed_due, retimed_if, retimed_handle, retimed_content, retimed_slot, retimed_entry, retimed_place, op_at, By, later, FitsOp, Site}
 
 abbrev pub shift_due : By → Due → Due
 shift_due d due = retimed_due (later d) due

@@ -1,4 +1,4 @@
-mod Names
+pub mod Names
 pub mod Cases
 pub mod Later
 pub mod Slots

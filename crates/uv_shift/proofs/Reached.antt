@@ -1,18 +1,11 @@
 -- Each state that steps lead to can be moved, where the script's numbers are small.
-use Rattle.uv_alike.proofs.Names.{◌≡◌, ℕ, suc, ◌+◌, ◌<◌, true, List, [], ◌∷◌, refl, ap, ◌∙◌, arith, Some, Id, Due, Event, Program, Op, HandleRecord, State, handle, front}
-use Rattle.uv_shift.proofs.Names.{◌≤◌, ◌^◌, elements, first_due, fresh, goes_on, state_of, is_timer, Next}
-use Rattle.std.proofs.Common.{inl}
+use Rattle.uv_shift.proofs.Names.{◌≡◌, ℕ, suc, ◌+◌, ◌<◌, true, List, [], ◌∷◌, refl, ap, ◌∙◌, arith, Some, Id, Due, Event, Program, Op, HandleRecord, State, handle, front, ◌≤◌, ◌^◌, elements, first_due, fresh, goes_on, state_of, is_timer, Next, inl, LATEST, Has, IsTimer, FitsOp, IsShort, IsShortOp, IsTimed, AreSetAside}
 use Rattle.uv_ids.specs.declared.phase.Kind.TheVariants as kind
 use Rattle.uv_model.specs.After.{after}
-use Rattle.uv_model.specs.Limits.{LATEST}
 use Rattle.uv_model.specs.Next.{next}
 use Rattle.uv_model.proofs.Bounded.{next_bounded}
 use Rattle.uv_model.proofs.Counting.{IsBounded, StaysBounded}
-use Rattle.uv_order.specs.Active.{Has, IsTimer}
-use Rattle.uv_order.specs.Reached.{AreSetAside}
 use Rattle.uv_order.proofs.Reaching.{reached}
-use Rattle.uv_shift.specs.Shift.{FitsOp, IsShort, IsShortOp}
-use Rattle.uv_shift.specs.Earliest.{IsTimed}
 use Rattle.uv_shift.proofs.Short.{held_short, after_short}
 use Rattle.uv_shift.proofs.Slots.{first_due_held}
 

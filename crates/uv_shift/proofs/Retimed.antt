@@ -1,8 +1,5 @@
 -- What becomes of a state whose times become others twice, and where none of them does.
-use Rattle.uv_alike.proofs.Names.{◌≡◌, ℕ, zero, suc, List, [], ◌∷◌, ◌&&◌, true, Option, Some, slice_get, refl, ap, ap₂, arith, Id, Due, HandleRecord, Slot, Content, State, Place}
-use Rattle.uv_shift.proofs.Names.{is_timer}
-use Rattle.std.specs.Prelude.{map, option_map}
-use Rattle.uv_shift.specs.Retimed.{Retiming, retimed_due, retimed_handle, retimed_content, retimed_slot, retimed_entry, retimed_place, retimed}
+use Rattle.uv_shift.proofs.Names.{◌≡◌, ℕ, zero, suc, List, [], ◌∷◌, ◌&&◌, true, Option, Some, slice_get, refl, ap, ap₂, arith, Id, Due, HandleRecord, Slot, Content, State, Place, is_timer, map, option_map, Retiming, retimed_due, retimed_handle, retimed_content, retimed_slot, retimed_entry, retimed_place, retimed}
 
 -- ---- twice
 

@@ -1,11 +1,8 @@
 -- No timer's repeat is longer than those of the script.
-use Rattle.uv_alike.proofs.Names.{◌≡◌, ℕ, ◌<◌, List, [], ◌∷◌, ◌++◌, Option, Some, None, arith, option_and_then, handle, handle_in, taken_from, Slot, Slots, Content, held_in, ◌==◌, slice_get, slice_set, Id, Event, Op, HandleRecord, Program, arena_size, State, freed, refl}
-use Rattle.uv_shift.proofs.Names.{subst, cond_both, elements, All, goes_on, fresh, Next, state_of}
+use Rattle.uv_shift.proofs.Names.{◌≡◌, ℕ, ◌<◌, List, [], ◌∷◌, ◌++◌, Option, Some, None, arith, option_and_then, handle, handle_in, taken_from, Slot, Slots, Content, held_in, ◌==◌, slice_get, slice_set, Id, Event, Op, HandleRecord, Program, arena_size, State, freed, refl, subst, cond_both, elements, All, goes_on, fresh, Next, state_of, IsShortOp, IsShort, Named}
 use Rattle.uv_model.specs.Next.{next}
 use Rattle.uv_model.specs.After.{after}
 use Rattle.uv_alike.proofs.Kept.{RepeatsAs, StaysKept, op_repeat, next_kept}
-use Rattle.uv_records.specs.declared.named.Named.{Named}
-use Rattle.uv_shift.specs.Shift.{IsShortOp, IsShort}
 
 abbrev IsShortIn : ℕ → Option HandleRecord → Type 0
 IsShortIn n None = Unit {0}

@@ -1,9 +1,5 @@
 -- What the slots of a state hold whose times are later, and who is found.
-use Rattle.uv_alike.proofs.Names.{◌≡◌, List, Option, Some, ap, ◌∙◌, arith, Id, Due, HandleRecord, Slot, Content, State, handle, handle_in, held}
-use Rattle.uv_shift.proofs.Names.{first_due}
-use Rattle.std.proofs.lemmas.Option.{slice_get-map}
-use Rattle.std.specs.Prelude.{map, option_map}
-use Rattle.uv_shift.specs.Shift.{By, shift}
+use Rattle.uv_shift.proofs.Names.{◌≡◌, List, Option, Some, ap, ◌∙◌, arith, Id, Due, HandleRecord, Slot, Content, State, handle, handle_in, held, first_due, slice_get-map, map, option_map, By, shift}
 use Rattle.uv_shift.proofs.Later.{shift_handle, shift_content, shift_slot}
 
 -- ---- what a slot holds

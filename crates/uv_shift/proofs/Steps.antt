@@ -1,10 +1,6 @@
 -- A step of the loop where all times are later.
-use Rattle.uv_alike.proofs.Names.{◌≡◌, ℕ, ◌+◌, Option, ap, sym, ◌∙◌, arith, Event, Tick, Seen, Program, State, Moves}
-use Rattle.uv_shift.proofs.Names.{◌≤◌, Next, Refuses}
-use Rattle.std.specs.Prelude.{option_map}
-use Rattle.uv_model.specs.Limits.{LATEST}
+use Rattle.uv_shift.proofs.Names.{◌≡◌, ℕ, ◌+◌, Option, ap, sym, ◌∙◌, arith, Event, Tick, Seen, Program, State, Moves, ◌≤◌, Next, Refuses, option_map, LATEST, By, shift, shift_next, TimesFit, ClockFits, IsMoved}
 use Rattle.uv_model.specs.Next.{next}
-use Rattle.uv_shift.specs.Shift.{By, shift, shift_next, TimesFit, ClockFits, IsMoved}
 use Rattle.uv_shift.proofs.Later.{CanShift, shift_handle}
 use Rattle.uv_shift.proofs.Cases.{if_shift}
 use Rattle.uv_shift.proofs.Slots.{shift_pair, handle_shift}

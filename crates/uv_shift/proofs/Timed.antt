@@ -1,11 +1,5 @@
 -- Where the times of a later state fit, those of the state itself do.
-use Rattle.uv_alike.proofs.Names.{◌≡◌, ℕ, ◌+◌, List, [], ◌∷◌, ◌&&◌, Bool, true, refl, ap, sym, ◌∙◌, arith, Id, Due, Op, Program, State}
-use Rattle.uv_shift.proofs.Names.{subst, is_timer}
-use Rattle.std.proofs.Common.{inl, inr}
-use Rattle.std.specs.Prelude.{map, option_map}
-use Rattle.uv_order.specs.Active.{Before, InOrder, Has, IsTimer, AreTimers}
-use Rattle.uv_shift.specs.Shift.{By, shift, FitsOp, TimesFit}
-use Rattle.uv_shift.specs.Earliest.{base, earliest, IsTimed}
+use Rattle.uv_shift.proofs.Names.{◌≡◌, ℕ, ◌+◌, List, [], ◌∷◌, ◌&&◌, Bool, true, refl, ap, sym, ◌∙◌, arith, Id, Due, Op, Program, State, subst, is_timer, inl, inr, map, option_map, Before, InOrder, Has, IsTimer, AreTimers, By, shift, FitsOp, TimesFit, base, earliest, IsTimed}
 use Rattle.uv_shift.proofs.Later.{shift_due, shift_if, shift_handle, shift_entry}
 use Rattle.uv_shift.proofs.Slots.{handle_shift}
 use Rattle.uv_shift.proofs.Steps.{can_shift}

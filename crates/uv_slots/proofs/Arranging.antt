@@ -1,11 +1,6 @@
 -- Slots in another order are slots that are named anew: the loop goes on alike.
-use Rattle.uv_alike.proofs.Names.{◌≡◌, ℕ, zero, suc, List, [], ◌∷◌, Bool, Option, Some, None, refl, ap, sym, option_and_then, ◌==◌, ◌&&◌, length, Id, Due, Event, Slot, Slots, Content, Program, State, handle, front, held, held_in, id_of, next_id, taken_from, freed}
-use Rattle.std.specs.Prelude.{◌≤◌, map, option_map}
-use Rattle.std.proofs.lemmas.List.{length-set}
-use Rattle.uv_records.specs.Slots.{next_unused}
-use Rattle.uv_model.specs.Next.{next, first_due}
+use Rattle.uv_slots.proofs.Names.{◌≡◌, ℕ, zero, suc, List, [], ◌∷◌, Bool, Option, Some, None, refl, ap, sym, option_and_then, ◌==◌, ◌&&◌, length, Id, Due, Event, Slot, Slots, Content, Program, State, handle, front, held, held_in, id_of, next_id, taken_from, freed, ◌≤◌, map, option_map, length-set, next_unused, next, first_due, IsOrder, place_of, arranged_slots, arranged_id, arranged_entry, arranged_arena, arranged, arranged_next}
 use Rattle.uv_shift.proofs.Cases.{if_shift}
-use Rattle.uv_slots.specs.Arranged.{IsOrder, place_of, arranged_slots, arranged_id, arranged_entry, arranged_arena, arranged, arranged_next}
 use Rattle.uv_slots.proofs.Orders.{Fits, same_place, place_behind, get_arranged, set_arranged, push_arranged, length_arranged, any_arranged}
 use Rattle.uv_slots.proofs.Relabel.{Relabel}
 use Rattle.uv_slots.proofs.RelabeledSlots.{handle_relabeled, front_relabeled}

@@ -1,15 +1,8 @@
 -- Names that forget in which slot that was which is gone.
-use Rattle.uv_alike.proofs.Names.{if◌then◌else◌, Bool, List, None, Option, Some, [], ap, ap₂, arith, false, length, not, refl, suc, sym, true, ℕ, ◌&&◌, ◌+◌, ◌∙◌, ◌∷◌, ◌≡◌, Event, Id, Var, Seen, Moves, State, named, Slots, freed, held, next_id, taken_from, Named, Program, Content}
-use Rattle.std.proofs.Common.{subst}
-use Rattle.std.specs.Prelude.{map, option_map, is_some, ◌≤◌}
-use Rattle.std.proofs.lemmas.Grind.{elements}
+use Rattle.uv_slots.proofs.Names.{if◌then◌else◌, Bool, List, None, Option, Some, [], ap, ap₂, arith, false, length, not, refl, suc, sym, true, ℕ, ◌&&◌, ◌+◌, ◌∙◌, ◌∷◌, ◌≡◌, Event, Id, Var, Seen, Moves, State, named, Slots, freed, held, next_id, taken_from, Named, Program, Content, subst, map, option_map, is_some, ◌≤◌, elements, with_held, Next, Refuses, next, dead_id, buried_id, buried_name, buried, buried_next, is_past, CanBury, StaysKept, IsKept}
 use Rattle.uv_records.specs.Names as names
-use Rattle.uv_records.specs.Slots.{with_held}
-use Rattle.uv_model.specs.Next.{Next, Refuses, next}
-use Rattle.uv_slots.specs.Buried.{dead_id, buried_id, buried_name, buried, buried_next, is_past, CanBury}
 use Rattle.uv_names.proofs.Rebound.{rebound_name, rebound_next, named_rebound, next_rebound}
-use Rattle.uv_alike.proofs.Kept.{StaysKept}
-use Rattle.uv_alike.proofs.Walked.{IsKept, next_kept}
+use Rattle.uv_alike.proofs.Walked.{next_kept}
 
 -- ---- what is gone stays so
 

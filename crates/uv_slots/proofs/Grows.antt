@@ -1,10 +1,5 @@
 -- No step makes the slots fewer that were ever used.
-use Rattle.uv_alike.proofs.Names.{ℕ, List, length, arith, Id, Event, Slots, Content, Named, Program, State, taken_from, freed}
-use Rattle.std.proofs.lemmas.Bool.{cond_both}
-use Rattle.std.proofs.lemmas.Grind.{elements}
-use Rattle.std.specs.Prelude.{◌≤◌}
-use Rattle.uv_model.specs.Next.{next}
-use Rattle.uv_alike.proofs.Kept.{StaysKept, next_kept}
+use Rattle.uv_slots.proofs.Names.{ℕ, List, length, arith, Id, Event, Slots, Content, Named, Program, State, taken_from, freed, cond_both, elements, ◌≤◌, next, StaysKept, next_kept}
 
 -- there are as many at least
 abbrev pub HasUsed : ℕ → List Named → Slots Content → Type 0

@@ -1,19 +1,9 @@
 -- What is asked of a state for its names to be buried, each step keeps.
-use Rattle.uv_alike.proofs.Names.{List, Option, Some, [], arith, length, refl, slice_set, suc, sym, true, zero, ℕ, ◌+◌, ◌∙◌, ◌∷◌, ◌≡◌, Event, Id, Seen, Moves, State, Slots, freed, held, next_free, next_id, taken, taken_from, Named, Program, arena_size, Content}
-use Rattle.std.specs.Prelude.{◌≤◌, ◌⊎◌}
-use Rattle.std.proofs.Common.{subst, inl, inr}
-use Rattle.std.proofs.lemmas.Grind.{elements}
+use Rattle.uv_slots.proofs.Names.{List, Option, Some, [], arith, length, refl, slice_set, suc, sym, true, zero, ℕ, ◌+◌, ◌∙◌, ◌∷◌, ◌≡◌, Event, Id, Seen, Moves, State, Slots, freed, held, next_free, next_id, taken, taken_from, Named, Program, arena_size, Content, ◌≤◌, ◌⊎◌, subst, inl, inr, elements, with_held, Calls, goes_on, state_of, fresh, Next, Refuses, next, times, buried, is_past, CanBury, StaysKept, IsKept}
 use Rattle.uv_records.specs.Names as names
-use Rattle.uv_records.specs.Slots.{with_held}
-use Rattle.uv_records.specs.declared.named.Calls.{Calls}
-use Rattle.uv_model.specs.After.{after, goes_on, state_of}
-use Rattle.uv_model.specs.State.{fresh}
-use Rattle.uv_model.specs.Next.{Next, Refuses, next}
-use Rattle.uv_slots.specs.Arranged.{times}
-use Rattle.uv_slots.specs.Buried.{buried, is_past, CanBury}
+use Rattle.uv_model.specs.After.{after}
 use Rattle.uv_slots.proofs.Buries.{named_buried, turned_past, made_past, freed_past, dead_gone}
-use Rattle.uv_alike.proofs.Kept.{StaysKept}
-use Rattle.uv_alike.proofs.Walked.{IsKept, next_kept}
+use Rattle.uv_alike.proofs.Walked.{next_kept}
 
 -- ---- the slots
 

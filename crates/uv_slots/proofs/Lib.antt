@@ -1,3 +1,4 @@
+pub mod Names
 pub mod Orders
 pub mod Relabel
 pub mod RelabeledSlots

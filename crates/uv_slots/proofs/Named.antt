@@ -1,15 +1,6 @@
 -- Names and what the slots hold under them, and how the changes of a state keep that they agree.
-use Rattle.uv_alike.proofs.Names.{if◌then◌else◌, ◌≡◌, ℕ, zero, suc, ◌<◌, ◌+◌, ◌==◌, List, [], ◌∷◌, length, Bool, true, false, Option, Some, None, slice_get, slice_set, refl, ap, sym, ◌∙◌, arith, Id, Var, Slot, Slots, Content, Named, held, id_of, next_free, next_id, taken, taken_from, freed, same_id, option_and_then}
-use Rattle.std.proofs.lemmas.Bool.{cond_both, eqb-false, eqb-true}
-use Rattle.std.proofs.lemmas.Grind.{elements}
-use Rattle.std.specs.Prelude.{◌≤◌, option_map}
-use Rattle.uv_records.specs.declared.named.Calls.{Calls}
+use Rattle.uv_slots.proofs.Names.{if◌then◌else◌, ◌≡◌, ℕ, zero, suc, ◌<◌, ◌+◌, ◌==◌, List, [], ◌∷◌, length, Bool, true, false, Option, Some, None, slice_get, slice_set, refl, ap, sym, ◌∙◌, arith, Id, Var, Slot, Slots, Content, Named, held, id_of, next_free, next_id, taken, taken_from, freed, same_id, option_and_then, cond_both, eqb-false, eqb-true, elements, ◌≤◌, option_map, Calls, with_held, times, name_in, vacant, vacancies, IsLoose}
 use Rattle.uv_records.specs.Names as names
-use Rattle.uv_records.specs.Slots.{with_held}
-use Rattle.uv_slots.specs.Arranged.{times}
-use Rattle.uv_alike.specs.Contents.{name_in}
-use Rattle.uv_slots.specs.NamedForm.{vacant, vacancies}
-use Rattle.uv_alike.proofs.Kept.{IsLoose}
 
 -- ---- names
 

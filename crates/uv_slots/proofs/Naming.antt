@@ -1,21 +1,10 @@
 -- Names in another order, as a change: names that are alike may change places.
-use Rattle.uv_alike.proofs.Names.{if◌then◌else◌, ◌≡◌, ◌∙◌, ℕ, suc, ◌+◌, List, [], ◌∷◌, length, drop, arith, refl, ap, sym, Bool, Option, Some, None, list_any, slice_get, slice_set, nat_lt, Id, Var, Slot, Content, State, Program, Named, named, live, live_id, unbound, lines_in, CallbackLine, Event, Take, Finish, Tick, Callback, arena_size, held}
-use Rattle.std.specs.Prelude.{map, option_map, unwrap_or, is_some}
-use Rattle.std.proofs.lemmas.List.{drop-map}
-use Rattle.std.proofs.lemmas.Option.{slice_get-map}
-use Rattle.uv_script.specs.Program.{is_for, next_line}
+use Rattle.uv_slots.proofs.Names.{if◌then◌else◌, ◌≡◌, ◌∙◌, ℕ, suc, ◌+◌, List, [], ◌∷◌, length, drop, arith, refl, ap, sym, Bool, Option, Some, None, list_any, slice_get, slice_set, nat_lt, Id, Var, Slot, Content, State, Program, Named, named, live, live_id, unbound, lines_in, Event, Take, Finish, Tick, arena_size, held, map, option_map, unwrap_or, is_some, drop-map, slice_get-map, is_for, next_line, content_keeps, content_pends, is_used, next, place_of, arranged_slots, Comes, changed, changed_content, changed_live, changed_callback, changed_body, changed_event, changed_next, Hides, IsWhole, IsExact, work_same, any_same, runs_same, next_exact, CallbackLine, Callback}
 use Rattle.uv_work.specs.declared.content.Content.TheVariants as content
-use Rattle.uv_model.specs.Content.{content_keeps, content_pends, is_used}
 use Rattle.uv_model.specs.Next as steps
-use Rattle.uv_model.specs.Next.{next}
-use Rattle.uv_slots.specs.Arranged.{place_of, arranged_slots}
 use Rattle.uv_slots.proofs.Orders.{Fits, get_arranged, set_arranged}
 use Rattle.uv_slots.specs.Alike.{moved_var, moved_content, by_names, AreAlike}
-use Rattle.uv_alike.specs.Changed.{Comes, changed, changed_content, changed_live, changed_callback, changed_body, changed_event, changed_next}
-use Rattle.uv_alike.specs.Hides.{Hides, IsWhole, IsExact}
-use Rattle.uv_alike.proofs.Same.{work_same, any_same, runs_same}
 use Rattle.uv_alike.proofs.Mapped.{slot_of, held_mapped, turns_mapped, finds_mapped, takes_mapped, frees_mapped, live_mapped}
-use Rattle.uv_alike.proofs.Exact.{next_exact}
 
 in_range : {X : Type 0} (xs : List X) (n : ℕ) → nat_lt n (length xs) ≡ is_some (slice_get xs n)
 in_range (x ∷ xs) (suc n) = grind (arith, (in_range xs n))

@@ -1,12 +1,6 @@
 -- Orders of slots, and what stands in slots that are in such an order.
-use Rattle.uv_alike.proofs.Names.{◌≡◌, ℕ, zero, suc, ◌<◌, ◌==◌, List, [], ◌∷◌, ◌++◌, length, drop, Bool, true, false, Option, Some, None, if◌then◌else◌, slice_get, slice_set, list_any, refl, ap, sym, ◌∙◌, arith}
-use Rattle.std.proofs.lemmas.Bool.{eqb-false}
-use Rattle.std.specs.Prelude.{◌≤◌, ◌||◌, option_map, unwrap_or}
-use Rattle.std.proofs.lemmas.Option.{slice_get_past, slice_get_cases}
-use Rattle.std.proofs.Common.{append_assoc, length-append, length-drop}
-use Rattle.std.proofs.lemmas.List.{drop-append-le, drop-set-lt}
+use Rattle.uv_slots.proofs.Names.{◌≡◌, ℕ, zero, suc, ◌<◌, ◌==◌, List, [], ◌∷◌, ◌++◌, length, drop, Bool, true, false, Option, Some, None, if◌then◌else◌, slice_get, slice_set, list_any, refl, ap, sym, ◌∙◌, arith, eqb-false, ◌≤◌, ◌||◌, option_map, unwrap_or, slice_get_past, slice_get_cases, append_assoc, length-append, length-drop, drop-append-le, drop-set-lt, times, IsOrder, place_in, place_of, picked, arranged_slots}
 use Rattle.std.proofs.lemmas.List.Folds.{list_any-append}
-use Rattle.uv_slots.specs.Arranged.{times, IsOrder, place_in, place_of, picked, arranged_slots}
 
 -- ---- places
 

@@ -1,15 +1,8 @@
 -- Each state that few steps lead to is tidy.
-use Rattle.uv_alike.proofs.Names.{◌≡◌, ℕ, suc, ◌+◌, ◌<◌, List, [], ◌∷◌, length, Some, ap, arith, Id, Event, Content, Program, State, arena_size, held}
-use Rattle.std.proofs.lemmas.Grind.{elements}
-use Rattle.std.specs.Prelude.{◌≤◌, option_map}
-use Rattle.uv_model.specs.State.{fresh}
-use Rattle.uv_model.specs.After.{after, goes_on, state_of}
-use Rattle.uv_model.specs.Next.{Next, next}
+use Rattle.uv_slots.proofs.Names.{◌≡◌, ℕ, suc, ◌+◌, ◌<◌, List, [], ◌∷◌, length, Some, ap, arith, Id, Event, Content, Program, State, arena_size, held, elements, ◌≤◌, option_map, fresh, goes_on, state_of, Next, next, name_in, AreDeclared, IsTidy, StaysKept, next_kept}
+use Rattle.uv_model.specs.After.{after}
 use Rattle.uv_model.proofs.Bounded.{next_bounded}
 use Rattle.uv_model.proofs.Counting.{IsBounded, StaysBounded, slot_freed}
-use Rattle.uv_alike.specs.Contents.{name_in}
-use Rattle.uv_slots.specs.NamedForm.{AreDeclared, IsTidy}
-use Rattle.uv_alike.proofs.Kept.{StaysKept, next_kept}
 use Rattle.uv_slots.proofs.Named.{Agree, is_there, counted_agree, turned_agree, made_agree, freed_agree}
 
 abbrev count_of : Program → ℕ

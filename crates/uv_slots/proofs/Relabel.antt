@@ -1,12 +1,8 @@
 -- A state whose slots and ids are others. Each id that names a slot is named anew with it, and whatever else a state has stays.
-use Rattle.uv_alike.proofs.Names.{◌≡◌, ℕ, List, Bool, Option, Some, list_any, Id, Due, Seen, Slot, Slots, Content, Named, State, Program, arena_size, same_id, held, with_held, next_free, taken, freed, Moves}
-use Rattle.std.specs.Prelude.{map, option_map}
+use Rattle.uv_slots.proofs.Names.{◌≡◌, ℕ, List, Bool, Option, Some, list_any, Id, Due, Seen, Slot, Slots, Content, Named, State, Program, arena_size, same_id, held, with_held, next_free, taken, freed, Moves, map, option_map, Watchers, Next, Refuses, Walk}
 use Rattle.uv_ids.specs.declared.code.Answer.{Answer}
 use Rattle.uv_ids.specs.declared.code.Answer.TheVariants as answer
 use Rattle.uv_ids.specs.declared.seen.Seen.TheVariants as seen
-use Rattle.uv_records.specs.Walks.{Walk}
-use Rattle.uv_model.specs.State.{Watchers}
-use Rattle.uv_model.specs.Next.{Next, Refuses}
 
 -- what becomes of the slots, of the free ones and of ids, so that no step from slots of which `Fits` holds can tell
 pub record Relabel : Type 1 where

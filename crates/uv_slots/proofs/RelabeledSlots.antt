@@ -1,8 +1,5 @@
 -- The slots of a state that are relabeled, what its ids hold, its names, and the first timer.
-use Rattle.uv_alike.proofs.Names.{◌≡◌, List, [], ◌∷◌, Option, Some, None, refl, ap, ◌∙◌, nat_le, Id, Var, Due, State, named, handle, live, live_id, front, with_id, handle_in, held, Named, unbound}
-use Rattle.std.proofs.lemmas.Option.{slice_get-map}
-use Rattle.std.specs.Prelude.{map, option_map, unwrap_or}
-use Rattle.uv_model.specs.Next.{first_due}
+use Rattle.uv_slots.proofs.Names.{◌≡◌, List, [], ◌∷◌, Option, Some, None, refl, ap, ◌∙◌, nat_le, Id, Var, Due, State, named, handle, live, live_id, front, with_id, handle_in, held, Named, unbound, slice_get-map, map, option_map, unwrap_or, first_due}
 use Rattle.uv_alike.proofs.Cases.{if_shift}
 use Rattle.uv_slots.proofs.Relabel.{Relabel, relabeled, relabeled_named, relabeled_entry}
 

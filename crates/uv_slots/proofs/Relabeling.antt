@@ -1,18 +1,8 @@
 -- Slots and ids that are named anew are a change of the state: a step goes as it does.
-use Rattle.uv_alike.proofs.Names.{◌≡◌, ◌∙◌, ap, ap₂, sym, arith, Option, Some, None, refl, Id, Content, State, Program, Body, Place, Main, Running, Run, Seen, Event, Moves, held, refl}
-use Rattle.std.specs.Prelude.{map, option_map}
-use Rattle.std.proofs.lemmas.List.{length-map, map-set}
-use Rattle.std.proofs.lemmas.Option.{slice_get-map}
-use Rattle.uv_ids.specs.declared.event.Event.TheVariants.{Take, Finish, Tick}
+use Rattle.uv_slots.proofs.Names.{◌≡◌, ◌∙◌, ap, ap₂, sym, arith, Option, Some, None, refl, Id, Content, State, Program, Seen, Event, Moves, held, map, option_map, length-map, map-set, slice_get-map, Take, Finish, Tick, content_keeps, content_pends, is_used, Next, Refuses, next, Change, same, changed, changed_content, changed_live, changed_body, changed_run, changed_place, changed_line, changed_next, Comes, Hides, IsWhole, IsExact, work_same, option_same, lines_same, main_same, event_same, stage_same, next_exact, Body, Place, Main, Running, Run}
 use Rattle.uv_work.specs.declared.content.Content.TheVariants as content
-use Rattle.uv_model.specs.Content.{content_keeps, content_pends, is_used}
-use Rattle.uv_model.specs.Next.{Next, Refuses, next}
 use Rattle.uv_slots.proofs.Relabel.{Relabel, CanRelabel, relabeled, relabeled_named, relabeled_line, relabeled_next}
 use Rattle.uv_slots.proofs.RelabeledSlots.{live_relabeled, named_relabeled}
-use Rattle.uv_alike.specs.Changed.{Change, same, changed, changed_content, changed_live, changed_body, changed_run, changed_place, changed_line, changed_next, Comes}
-use Rattle.uv_alike.specs.Hides.{Hides, IsWhole, IsExact}
-use Rattle.uv_alike.proofs.Same.{work_same, option_same, lines_same, main_same, event_same, stage_same}
-use Rattle.uv_alike.proofs.Exact.{next_exact}
 
 abbrev pub by_relabel : Relabel → Change
 by_relabel o = record {

@@ -1,10 +1,5 @@
 -- The order of a state's slots by its names has each of them once.
-use Rattle.uv_alike.proofs.Names.{◌≡◌, ℕ, zero, suc, ◌<◌, ◌+◌, List, [], ◌∷◌, ◌++◌, length, Option, Some, None, slice_get, refl, ap, sym, ◌∙◌, arith, Id, Var, Slot, Content, Named, State, named, unbound, held, id_of}
-use Rattle.std.proofs.lemmas.Option.{slice_get_past, slice_get_cases}
-use Rattle.std.specs.Prelude.{◌≤◌, option_map, option_to_list, unwrap_or}
-use Rattle.uv_slots.specs.Arranged.{times, IsOrder}
-use Rattle.uv_alike.specs.Contents.{name_in}
-use Rattle.uv_slots.specs.NamedForm.{slot_bound, slots_bound, named_order, IsTidy}
+use Rattle.uv_slots.proofs.Names.{◌≡◌, ℕ, zero, suc, ◌<◌, ◌+◌, List, [], ◌∷◌, ◌++◌, length, Option, Some, None, slice_get, refl, ap, sym, ◌∙◌, arith, Id, Var, Slot, Content, Named, State, named, unbound, held, id_of, slice_get_past, slice_get_cases, ◌≤◌, option_map, option_to_list, unwrap_or, times, IsOrder, name_in, slot_bound, slots_bound, named_order, IsTidy}
 
 -- an order of all slots of this list
 pub record IsWhole {X : Type 0} (o : List ℕ) (slots : List X) : Type 0 where

@@ -11,7 +11,7 @@ pub mod Naming
 pub mod Onto
 pub mod Ordered
 pub mod Pools
-mod ProofNames
+pub mod ProofNames
 pub mod Retimed
 pub mod Returning
 pub mod Single

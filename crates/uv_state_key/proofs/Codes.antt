@@ -1,31 +1,15 @@
 -- The bytes of each part of a state tell which one it is.
-use Rattle.std.proofs.Common.{arith, ◌≤◌, ◌≡◌, ℕ, ◌+◌, ◌*◌, ◌<◌, ◌==◌, Bool, true, false, List, [], ◌∷◌, ◌++◌, Option, Some, if◌then◌else◌, refl, ap}
-use Rattle.uv_ids.specs.declared.id.Id.{Id}
-use Rattle.uv_ids.specs.declared.phase.Kind.{Kind}
+use Rattle.uv_state_key.proofs.Names.{arith, ◌≤◌, ◌≡◌, ℕ, ◌+◌, ◌*◌, ◌<◌, ◌==◌, Bool, true, false, List, [], ◌∷◌, ◌++◌, Option, Some, if◌then◌else◌, refl, ap, Id, Kind, HandleRecord, Calls, Named, Walk, Numbers, number_code, Tells, number_small, numbers_tell, byte_tells, pair_tells, part_tells, list_tells, option_tells, settled_back, id_code, ids_code, bit, mode_number, callback_number, stage_part, stage_code, place_code, kind_number, flags_of, walk_code, Mode, Callback, Body, Main, Running, Run, Stage, Collecting, Firing}
 use Rattle.uv_ids.specs.declared.phase.Kind.TheVariants as kind
-use Rattle.uv_ids.specs.declared.phase.Mode.{Mode}
 use Rattle.uv_ids.specs.declared.phase.Mode.TheVariants.{Default, Once, Nowait}
-use Rattle.uv_ids.specs.declared.seen.Callback.{Callback}
 use Rattle.uv_ids.specs.declared.seen.Callback.TheVariants as callback
-use Rattle.uv_records.specs.declared.handle.HandleRecord.{HandleRecord}
-use Rattle.uv_records.specs.declared.named.Calls.{Calls}
-use Rattle.uv_records.specs.declared.named.Named.{Named}
-use Rattle.uv_records.specs.Walks.{Walk}
 use Rattle.uv_work.specs.declared.content.Content.TheVariants as content
-use Rattle.uv_model.specs.declared.numbers.Numbers.{Numbers}
-use Rattle.uv_model.specs.declared.place.Body.{Body}
-use Rattle.uv_model.specs.declared.place.Place.TheVariants.{Main, Running}
-use Rattle.uv_model.specs.declared.place.Run.{Run}
-use Rattle.uv_model.specs.declared.place.Stage.{Stage}
 use Rattle.uv_model.specs.declared.place.Stage.TheVariants as stage
 use Rattle.uv_records.specs.declared.lists.WatcherKind.TheVariants as watcher
 use Rattle.uv_model.specs.declared.place.TimersOf.TheVariants.{Entry, Iteration}
-use Rattle.uv_model.specs.declared.place.Timing.TheVariants.{Collecting, Firing}
-use Rattle.uv_key.specs.Codes.{number_code, byte_code, Tells}
-use Rattle.uv_key.proofs.Numbers.{number_small}
-use Rattle.uv_key.proofs.Telling.{numbers_tell, byte_tells, pair_tells, part_tells, list_tells, option_tells, settled_back}
-use Rattle.uv_state_key.specs.Key.{id_code, ids_code, bit, mode_number, callback_number, stage_part, stage_code, body_code, run_code}
-use Rattle.uv_state_key.specs.Key.{place_code, calls_code, named_code, kind_number, flags_of, handle_code, slot_code, walk_code, numbers_code}
+use Rattle.uv_key.specs.Codes.{byte_code}
+use Rattle.uv_state_key.specs.Key.{body_code, run_code}
+use Rattle.uv_state_key.specs.Key.{calls_code, named_code, handle_code, slot_code, numbers_code}
 
 -- ---- ids
 

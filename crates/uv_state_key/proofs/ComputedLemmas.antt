@@ -1,18 +1,6 @@
 -- What the code computes of a state is by how much its times are later than they have to be.
-use Rattle.std.proofs.Common.{arith, ◌≡◌, inl, inr, ℕ, zero, suc, ◌+◌, ◌<◌, List, [], ◌∷◌, length, take, get_or, refl, ap, sym, ◌∙◌, add-one}
-use Rattle.std.proofs.Common.{Option, Some, None}
-use Rattle.std.specs.Prelude.{map, min}
-use Rattle.uv_ids.specs.declared.id.Id.{Id}
-use Rattle.uv_ids.specs.declared.due.Due.{Due}
-use Rattle.uv_records.specs.declared.handle.HandleRecord.{HandleRecord}
-use Rattle.uv_records.specs.Slots.{held}
-use Rattle.uv_work.specs.declared.content.Content.{Content}
+use Rattle.uv_state_key.proofs.Names.{arith, ◌≡◌, inl, inr, ℕ, zero, suc, ◌+◌, ◌<◌, List, [], ◌∷◌, length, take, get_or, refl, ap, sym, ◌∙◌, add-one, Option, Some, None, map, min, Id, Due, HandleRecord, held, Content, handle_in, State, Has, IsTimer, or_first, least_start, due_of, due_at, first_at, least_among}
 use Rattle.uv_work.specs.declared.content.Content.TheVariants as content
-use Rattle.uv_model.specs.Content.{handle_in}
-use Rattle.uv_model.specs.State.{State}
-use Rattle.uv_order.specs.Active.{Has, IsTimer}
-use Rattle.uv_shift.specs.Earliest.{or_first, least_start}
-use Rattle.uv_state_key.specs.Computed.{due_of, due_at, first_at, least_among}
 
 -- ---- when timers are due
 

@@ -1,11 +1,6 @@
 -- Equal bytes of what is told of two states are equal tales.
-use Rattle.std.proofs.Common.{◌≡◌, ℕ, List, ◌++◌, Option, Some, None, ap}
-use Rattle.uv_model.specs.State.{State}
-use Rattle.uv_shift.specs.Earliest.{base}
-use Rattle.uv_tale.specs.Tale.{tale}
+use Rattle.uv_state_key.proofs.Names.{◌≡◌, ℕ, List, ◌++◌, Option, Some, None, ap, State, base, tale, key_code, IsTold}
 use Rattle.uv_state_key.specs.Formed.{Whole, Told, formed}
-use Rattle.uv_state_key.specs.TaleKey.{key_code}
-use Rattle.uv_state_key.specs.Told.{IsTold}
 use Rattle.uv_state_key.proofs.States.{states_tell}
 use Rattle.uv_state_key.proofs.TaleTells.{tale_fits, tale_tells}
 

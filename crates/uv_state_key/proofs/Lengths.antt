@@ -1,9 +1,5 @@
 -- A reached state has as many names as its script.
-use Rattle.std.proofs.Common.{◌≡◌, ℕ, List, length, ap, sym, ◌∙◌}
-use Rattle.uv_ids.specs.declared.event.Event.{Event}
-use Rattle.uv_script.specs.Program.{Program, IsWhole}
-use Rattle.uv_model.specs.After.{after}
-use Rattle.uv_order.proofs.Documents.{holds_after}
+use Rattle.uv_state_key.proofs.Names.{◌≡◌, ℕ, List, length, ap, sym, ◌∙◌, Event, Program, IsWhole, after, holds_after}
 
 names_long : (p : Program) (es : List Event) → length (after p es).names ≡ length p.callbacks
 names_long p es = (holds_after p es).holds.stands.counted.long

@@ -1,3 +1,4 @@
+pub mod Names
 mod Lengths
 pub mod Codes
 mod Timers

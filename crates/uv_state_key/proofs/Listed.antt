@@ -1,35 +1,12 @@
 -- What stands on lists is held by slots: where no slot holds any of it, a list is empty.
-use Rattle.std.proofs.Common.{arith, ◌≡◌, ◌⊎◌, inl, inr, ℕ, zero, suc, ◌<◌, Bool, true, false, List, []}
-use Rattle.std.proofs.Common.{◌∷◌, ◌++◌, length, Option, Some, None, option_and_then, slice_get, if◌then◌else◌, refl, ap, sym, subst, ◌∙◌}
-use Rattle.std.proofs.lemmas.Bool.{eqb-true}
-use Rattle.std.proofs.lemmas.List.{append-nil}
-use Rattle.uv_ids.specs.declared.event.Event.{Event}
-use Rattle.uv_ids.specs.declared.id.Id.{Id}
-use Rattle.uv_ids.specs.declared.phase.Kind.{Kind}
+use Rattle.uv_state_key.proofs.Names.{arith, ◌≡◌, ◌⊎◌, inl, inr, ℕ, zero, suc, ◌<◌, Bool, true, false, List, [], ◌∷◌, ◌++◌, length, Option, Some, None, option_and_then, slice_get, if◌then◌else◌, refl, ap, sym, subst, ◌∙◌, append-nil, Event, Id, Kind, Program, HandleRecord, Slot, held, held_in, Content, Request, is_open, after, handle_in, request_in, State, kind_as, watched, has_id, AreAll, AreDistinct, IsActive, IsClosing, IsEnded, run_ids, reached, number_small, AreFew, one_more, and_content, content_at, id_at, id_by, holds_in, held_by, no_holds, and_active, and_closing, and_handle, and_request, and_resting, eqb-true, WatcherKind, is_timer, IsReached}
 use Rattle.uv_ids.specs.declared.phase.Kind.TheVariants as kind
-use Rattle.uv_script.specs.Program.{Program}
-use Rattle.uv_records.specs.declared.handle.HandleRecord.{HandleRecord}
-use Rattle.uv_records.specs.declared.slot.Slot.{Slot}
-use Rattle.uv_records.specs.declared.lists.WatcherKind.{WatcherKind}
 use Rattle.uv_records.specs.declared.lists.WatcherKind.TheVariants as watcher
-use Rattle.uv_records.specs.Handles.{is_timer}
-use Rattle.uv_records.specs.Slots.{held, held_in}
-use Rattle.uv_work.specs.declared.content.Content.{Content}
 use Rattle.uv_work.specs.declared.content.Content.TheVariants as content
-use Rattle.uv_work.specs.declared.request.Request.{Request}
-use Rattle.uv_work.specs.Requests.{is_open}
-use Rattle.uv_model.specs.After.{after}
-use Rattle.uv_model.specs.Content.{handle_in, request_in}
-use Rattle.uv_model.specs.State.{State, kind_as, watched}
-use Rattle.uv_order.specs.Active.{has_id, AreAll, AreDistinct, IsActive, IsClosing, IsEnded, run_ids}
-use Rattle.uv_order.specs.Reached.{IsReached}
-use Rattle.uv_order.proofs.Reaching.{reached}
 use Rattle.uv_key.specs.Codes.{list_code}
-use Rattle.uv_key.proofs.Numbers.{number_small}
 use Rattle.uv_state_key.specs.declared.holds.Holds.{Holds}
 use Rattle.uv_state_key.specs.declared.holds.Few.{Few}
 use Rattle.uv_state_key.specs.declared.holds.Few.TheVariants as few
-use Rattle.uv_state_key.specs.Holding.{AreFew, one_more, and_content, content_at, id_at, id_by, holds_in, held_by, no_holds, and_active, and_closing, and_handle, and_request, and_resting}
 
 -- ---- what one of them holds is told
 

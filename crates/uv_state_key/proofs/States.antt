@@ -1,30 +1,7 @@
 -- Equal bytes are equal states.
-use Rattle.std.proofs.Common.{◌≡◌, ℕ, List, ◌++◌, Option, Some, None, ap}
-use Rattle.uv_ids.specs.declared.id.Id.{Id}
-use Rattle.uv_ids.specs.declared.event.Event.{Event}
-use Rattle.uv_ids.specs.declared.seen.Seen.{Seen}
-use Rattle.uv_script.specs.Program.{Program}
-use Rattle.uv_records.specs.declared.named.Named.{Named}
-use Rattle.uv_records.specs.Slots.{Slots}
-use Rattle.uv_records.specs.Walks.{Walk}
-use Rattle.uv_work.specs.declared.content.Content.{Content}
-use Rattle.uv_work.specs.declared.outcome.Outcome.{Outcome}
-use Rattle.uv_work.specs.declared.outcome.Outcome.TheVariants.{Open, Finished, Cancelled}
-use Rattle.uv_work.specs.declared.request.Request.{Request}
-use Rattle.uv_work.specs.declared.task.Task.{Task}
-use Rattle.uv_work.specs.Requests.{IsDigest}
-use Rattle.uv_model.specs.declared.numbers.Numbers.{Numbers}
-use Rattle.uv_model.specs.declared.place.Place.{Place}
-use Rattle.uv_model.specs.After.{after}
-use Rattle.uv_model.specs.Queries.{numbers}
-use Rattle.uv_model.specs.State.{State, request}
-use Rattle.uv_order.specs.Once.{SaysTrue}
-use Rattle.uv_order.proofs.Documents.{holds_after}
-use Rattle.uv_order.proofs.Reaching.{reached}
-use Rattle.uv_key.specs.Codes.{list_code, option_code, Tells}
-use Rattle.uv_key.proofs.Telling.{any_tells, pair_tells, pair_tells_of, list_tells, option_tells}
-use Rattle.uv_state_key.specs.Key.{id_code, ids_code, walk_code, watchers_code, requests_code, state_code}
-use Rattle.uv_state_key.specs.Told.{IsTold}
+use Rattle.uv_state_key.proofs.Names.{◌≡◌, ℕ, List, ◌++◌, Option, Some, None, ap, Id, Event, Program, Named, Slots, Walk, Content, Outcome, Open, Finished, Cancelled, Request, Task, IsDigest, Numbers, Place, after, numbers, State, request, holds_after, reached, option_code, Tells, any_tells, pair_tells, pair_tells_of, list_tells, option_tells, id_code, ids_code, walk_code, IsTold, Seen, SaysTrue}
+use Rattle.uv_key.specs.Codes.{list_code}
+use Rattle.uv_state_key.specs.Key.{watchers_code, requests_code, state_code}
 use Rattle.uv_state_key.proofs.Codes.{id_tells, ids_tell, walk_tells, place_tells, named_tells, loop_numbers_tell}
 use Rattle.uv_state_key.proofs.Slots.{ArenaFits, arena_tells, arena_fits}
 use Rattle.uv_state_key.proofs.Timers.{same_timers}

@@ -1,23 +1,10 @@
 -- The bytes of what is told, as they are written.
-use Rattle.std.proofs.Common.{◌≡◌, ◌<◌, ℕ, true, List, [], ◌∷◌, ◌++◌, refl, ap, ap₂, sym}
-use Rattle.std.specs.Prelude.{map}
-use Rattle.std.specs.List.{flat_map}
-use Rattle.std.proofs.lemmas.List.{length-map}
-use Rattle.uv_ids.specs.declared.id.Id.{Id}
-use Rattle.uv_records.specs.declared.handle.HandleRecord.{HandleRecord}
-use Rattle.uv_records.specs.declared.named.Calls.{Calls}
-use Rattle.uv_records.specs.declared.slot.Slot.{Slot}
-use Rattle.uv_work.specs.declared.content.Content.{Content}
-use Rattle.uv_records.specs.Walks.{Walk}
-use Rattle.uv_model.specs.State.{State}
-use Rattle.uv_shift.specs.Shift.{By}
-use Rattle.uv_tale.specs.Tale.{name_at, names_at, runs_at, tale_by, walk_at}
-use Rattle.uv_key.specs.Codes.{number_code, byte_code, list_code}
-use Rattle.uv_key.proofs.Numbers.{number_small}
-use Rattle.uv_state_key.specs.Key.{numbers_code, place_code}
-use Rattle.uv_state_key.specs.Listing.{members_code, members_walk_code, named_lists_code, named_requests_code, told_state_code, walks_code}
-use Rattle.uv_state_key.specs.TaleKey.{names_code, names_walk_code, run_name_code, tale_code, told_code, told_lists_code, told_requests_code, told_watchers_code}
-use Rattle.uv_state_key.specs.TaleKey.{handle_number, told_handle_code, are_few, few_number, counts_code}
+use Rattle.uv_state_key.proofs.Names.{◌≡◌, ◌<◌, ℕ, true, List, [], ◌∷◌, ◌++◌, refl, ap, ap₂, sym, map, flat_map, length-map, Id, HandleRecord, Calls, Slot, Content, Walk, State, By, name_at, names_at, runs_at, tale_by, walk_at, number_code, number_small, place_code, members_code, members_walk_code, names_walk_code, run_name_code, handle_number, are_few, few_number}
+use Rattle.uv_key.specs.Codes.{byte_code, list_code}
+use Rattle.uv_state_key.specs.Key.{numbers_code}
+use Rattle.uv_state_key.specs.Listing.{named_lists_code, named_requests_code, told_state_code, walks_code}
+use Rattle.uv_state_key.specs.TaleKey.{names_code, tale_code, told_code, told_lists_code, told_requests_code, told_watchers_code}
+use Rattle.uv_state_key.specs.TaleKey.{told_handle_code, counts_code}
 
 module _ {A B : Type 0} (f : B → List ℕ) (g : A → B) where
   flat_map_map : (xs : List A) → flat_map (λ x. f (g x)) xs ≡ flat_map f (map g xs)

@@ -1,12 +1,5 @@
 -- The active timers are settled by their handles: they stand in the order in which they are due.
-use Rattle.std.proofs.Common.{◌≡◌, ap, sym, ◌∙◌}
-use Rattle.uv_ids.specs.declared.id.Id.{Id}
-use Rattle.uv_ids.specs.declared.due.Due.{Due}
-use Rattle.uv_records.specs.Slots.{Slots, held}
-use Rattle.uv_work.specs.declared.content.Content.{Content}
-use Rattle.uv_model.specs.Content.{handle_in}
-use Rattle.uv_model.specs.State.{State}
-use Rattle.uv_order.specs.Active.{IsTimer, AreTimers}
+use Rattle.uv_state_key.proofs.Names.{◌≡◌, ap, sym, ◌∙◌, Id, Due, Slots, held, Content, handle_in, State, IsTimer, AreTimers}
 use Rattle.uv_tale.proofs.Timers.{same_list}
 
 -- a timer of the one state is one of the other, where their slots are the same

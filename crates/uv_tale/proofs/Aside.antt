@@ -1,14 +1,5 @@
 -- What holds of a state holds of it in another place, and with other names.
-use Rattle.std.proofs.Common.{◌≡◌, arith}
-use Rattle.uv_ids.specs.declared.due.Due.{Due}
-use Rattle.uv_ids.specs.declared.event.Event.{Event}
-use Rattle.uv_ids.specs.declared.id.Id.{Id}
-use Rattle.uv_script.specs.Program.{Program}
-use Rattle.uv_model.specs.State.{State}
-use Rattle.uv_order.specs.Active.{IsTimer}
-use Rattle.uv_shift.specs.Shift.{ClockFits}
-use Rattle.uv_shift.specs.Earliest.{IsTimed}
-use Rattle.uv_generations.specs.Youngest.{IsInSlot, IsYoung}
+use Rattle.uv_tale.proofs.Names.{◌≡◌, arith, Due, Event, Id, Program, State, IsTimer, ClockFits, IsTimed, IsInSlot, IsYoung}
 
 -- the place and the names are those of the other one
 abbrev pub aside : State → State → State

@@ -1,31 +1,11 @@
 -- The form of a state by its names is made from its tale.
-use Rattle.std.proofs.Common.{◌≡◌, ℕ, List, [], ◌∷◌, true, Option, refl, ap, sym, ◌∙◌, slice_get}
-use Rattle.std.proofs.lemmas.Option.{slice_get-map}
-use Rattle.std.specs.Prelude.{map, option_map, min}
-use Rattle.uv_ids.specs.declared.due.Due.{Due}
-use Rattle.uv_ids.specs.declared.id.Id.{Id}
+use Rattle.uv_tale.proofs.Names.{pooled, ◌≡◌, ℕ, List, [], ◌∷◌, true, Option, refl, ap, sym, ◌∙◌, slice_get, slice_get-map, map, option_map, min, Due, Id, Program, arena_size, Place, Main, Running, State, has_id, run_ids, By, base, earlier, earliest, least_start, or_first, or_over, youngest, IsInSlot, capped, capped_place, staled, arranged, arranged_entry, arranged_id, buried, named_order, normal, orderly, IsRegular, run_names, tale}
 use Rattle.uv_records.specs.declared.lists.WatcherKind.TheVariants as watcher
-use Rattle.uv_script.specs.Program.{Program, arena_size}
-use Rattle.uv_model.specs.declared.place.Place.{Place}
-use Rattle.uv_model.specs.declared.place.Place.TheVariants.{Main, Running}
-use Rattle.uv_model.specs.State.{State}
-use Rattle.uv_order.specs.Active.{has_id, run_ids}
-use Rattle.uv_shift.specs.Shift.{By}
-use Rattle.uv_shift.specs.Earliest.{back, base, earlier, earliest, least_start, or_first, or_over}
+use Rattle.uv_shift.specs.Earliest.{back}
 use Rattle.uv_shift.proofs.Timed.{earliest_timed}
-use Rattle.uv_generations.specs.Youngest.{youngest, IsInSlot}
-use Rattle.uv_names.specs.Counts.{capped, capped_place}
-use Rattle.uv_names.specs.Stale.{staled}
-use Rattle.uv_slots.specs.Arranged.{arranged, arranged_entry, arranged_id}
-use Rattle.uv_slots.specs.Buried.{buried}
-use Rattle.uv_slots.specs.NamedForm.{named_order}
-use Rattle.uv_tale.proofs.Normal.{normal, settled, by_name}
-use Rattle.uv_workers.specs.Workers.{orderly}
-use Rattle.uv_tale.specs.Alike.{IsRegular}
-use Rattle.uv_tale.specs.Tale.{run_names, tale}
 use Rattle.uv_tale.proofs.Made.{made, named_entry, place_id}
 use Rattle.uv_tale.proofs.Making.{form_free, form_list, form_names, form_running, form_runs, form_slots, form_timers, form_walk, has_list, has_yet, settled_by}
-use Rattle.uv_tale.proofs.Settled.{order_stays}
+use Rattle.uv_tale.proofs.Settled.{settled, order_stays}
 use Rattle.uv_tale.proofs.Timers.{named_timers}
 
 -- ---- by how much it is later than its earliest form
@@ -70,7 +50,7 @@ module _ (p : Program) (n : ℕ) (s : State) (regular : IsRegular p s) where
       ∙ ap (λ (xs : List (Option Id)). slice_get xs k) (form_runs p n s regular s.running in_slots)
       ∙ slice_get-map (option_map (place_id (tale n s).names)) (run_names s.arena.slots s.running) k
 
-  pub is_made : by_name p n s ≡ made (arena_size p).slots (tale n s) (map (named_entry s.arena.slots) (earliest s).timers)
+  pub is_made : pooled n (settled p s) ≡ made (arena_size p).slots (tale n s) (map (named_entry s.arena.slots) (earliest s).timers)
   is_made =
       let k = regular.young in
       let places = form_names p n s regular in
@@ -106,7 +86,8 @@ module _ (p : Program) (n : ℕ) (s : State) (regular : IsRegular p s) where
         idled = s.idled;
       })
 
-pub tales_tell : (p : Program) (n : ℕ) (s t : State) → IsRegular p s → IsRegular p t → tale n s ≡ tale n t → by_name p n s ≡ by_name p n t
+pub tales_tell : (p : Program) (n : ℕ) (s t : State) → IsRegular p s → IsRegular p t → tale n s ≡ tale n t →
+    pooled n (settled p s) ≡ pooled n (settled p t)
 tales_tell p n s t h k same =
     let times = (earliest_timed p s h.timed).timers in
     let ticks = (earliest_timed p t k.timed).timers in

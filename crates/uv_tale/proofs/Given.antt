@@ -1,11 +1,5 @@
 -- Requests that workers run.
-use Rattle.std.proofs.Common.{◌≡◌, ℕ, suc, ◌++◌, List, [], ◌∷◌, true, Option, Some, None, arith, slice_get}
-use Rattle.std.proofs.lemmas.Bool.{or_right}
-use Rattle.uv_ids.specs.declared.id.Id.{Id}
-use Rattle.uv_model.specs.Ids.{same_id}
-use Rattle.uv_model.specs.State.{State}
-use Rattle.uv_order.specs.Active.{has_id, run_ids}
-use Rattle.uv_generations.specs.Youngest.{IsInSlot}
+use Rattle.uv_tale.proofs.Names.{◌≡◌, ℕ, suc, ◌++◌, List, [], ◌∷◌, true, Option, Some, None, arith, slice_get, or_right, Id, same_id, State, has_id, run_ids, IsInSlot}
 
 -- they are told apart by their slots
 pub one_in_slot : (s : State) (a b : Id) → a.slot ≡ b.slot → IsInSlot s a → IsInSlot s b → a ≡ b

@@ -1,10 +1,7 @@
 -- What holds of a state holds of it with its slots in another order.
-use Rattle.uv_alike.proofs.Names.{◌≡◌, ℕ, ◌+◌, ◌==◌, ◌&&◌, ◌++◌, List, [], ◌∷◌, Bool, true, Option, Some, None, refl, ap, ap₂, sym, ◌∙◌, Id, Due, HandleRecord, WatcherKind, held, Program, Content, same_id, State, handle, front, watched}
-use Rattle.uv_tale.proofs.Names.{◌||◌, ◌<◌, ◌^◌, subst, inl, inr, map, option_map, map-append, is_timer, Walk, first_due, has_id, run_ids, Has, IsTimer, AreTimers, InOrder, Before, TimesFit, IsTimed, IsInSlot, IsYoung, arranged_id, arranged_walk, arranged_entry, arranged, Fits, number_at, same_place, held_arranged, handle_arranged, front_arranged, arranged_pair}
-use Rattle.uv_slots.proofs.Moved.{place_number}
+use Rattle.uv_tale.proofs.Names.{◌≡◌, ℕ, ◌+◌, ◌==◌, ◌&&◌, ◌++◌, List, [], ◌∷◌, Bool, true, Option, Some, None, refl, ap, ap₂, sym, ◌∙◌, Id, Due, HandleRecord, held, Program, Content, same_id, State, handle, front, watched, ◌||◌, ◌<◌, ◌^◌, subst, inl, inr, map, option_map, map-append, is_timer, Walk, first_due, has_id, run_ids, Has, IsTimer, AreTimers, InOrder, Before, TimesFit, IsTimed, IsInSlot, IsYoung, arranged_id, arranged_walk, arranged_entry, arranged, Fits, number_at, same_place, held_arranged, handle_arranged, front_arranged, arranged_pair, place_number, first_due_arranged, WatcherKind}
 use Rattle.uv_tale.proofs.Order.{one_place}
 use Rattle.uv_records.specs.declared.lists.WatcherKind.TheVariants as watcher
-use Rattle.uv_slots.proofs.Arranging.{first_due_arranged}
 
 module _ (o : List ℕ) (s : State) (fits : Fits o s.arena.slots) where
   -- the id that comes to be this one

@@ -1,6 +1,5 @@
-mod Names
+pub mod Names
 mod Order
-pub mod Normal
 pub mod Aside
 pub mod Reduced
 pub mod Given
@@ -13,5 +12,6 @@ pub mod Timers
 pub mod Form
 pub mod Told
 pub mod Reading
+pub mod Pooled
 pub mod Lines
 pub mod Steps

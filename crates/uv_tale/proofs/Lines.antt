@@ -1,17 +1,8 @@
 -- What a line tells, it tells in other slots, later, with slots that were freed more often, and of another worker.
-use Rattle.uv_alike.proofs.Names.{◌≡◌, ℕ, List, Option, Some, arith, Seen, Program, State}
-use Rattle.uv_tale.proofs.Names.{option_map, By, later, shift, Frees, more, arranged, Fits, held_arranged}
+use Rattle.uv_tale.proofs.Names.{◌≡◌, ℕ, List, Option, Some, arith, Seen, Program, State, option_map, By, later, shift, Frees, more, arranged, Fits, held_arranged, Content, retimed_content, shift_line, more_line, rename, held_renamed, line_by, arranged_line, holds_timer, calls_timer, bare_line, told_line}
 use Rattle.uv_ids.specs.declared.seen.Seen.TheVariants as seen
-use Rattle.uv_work.specs.declared.content.Content.{Content}
-use Rattle.uv_shift.specs.Retimed.{retimed_content}
-use Rattle.uv_shift.specs.Shift.{shift_line}
 use Rattle.uv_shift.proofs.Slots.{held_shift}
-use Rattle.uv_generations.specs.More.{more_line}
-use Rattle.uv_generations.proofs.More.{rename, renamed_slots}
-use Rattle.uv_generations.proofs.Slots.{held_renamed}
-use Rattle.uv_workers.specs.Workers.{line_by}
-use Rattle.uv_slots.specs.Arranged.{arranged_line}
-use Rattle.uv_tale.specs.Alike.{holds_timer, calls_timer, told_line}
+use Rattle.uv_generations.proofs.More.{renamed_slots}
 
 pub told_arranged : (p : Program) (o : List ℕ) (line : Option Seen) →
     option_map (told_line p) (option_map (arranged_line o) line) ≡ option_map (told_line p) line
@@ -30,6 +21,10 @@ pub told_moved : (p : Program) (d : By) (k : Frees) (line : Option Seen) →
     option_map (told_line p) (moved_line p d k line) ≡ option_map (told_line p) line
 told_moved p d k line = grind arith
 
+pub bare_moved : (p : Program) (d : By) (k : Frees) (line : Option Seen) →
+    option_map (bare_line p) (moved_line p d k line) ≡ option_map (bare_line p) line
+bare_moved p d k line = grind arith
+
 timer_later : (d : By) (o : Option Content) → holds_timer (option_map (retimed_content (later d)) o) ≡ holds_timer o
 timer_later d o = grind arith
 
@@ -43,6 +38,10 @@ calls_moved p d k s each = assumption
 pub told_by : (p : Program) (j : ℕ) (line other : Option Seen) → option_map (told_line p) line ≡ option_map (told_line p) other →
     option_map (told_line p) (option_map (line_by j) line) ≡ option_map (told_line p) (option_map (line_by j) other)
 told_by p j line other same = grind arith
+
+pub bare_by : (p : Program) (j : ℕ) (line other : Option Seen) → option_map (bare_line p) line ≡ option_map (bare_line p) other →
+    option_map (bare_line p) (option_map (line_by j) line) ≡ option_map (bare_line p) (option_map (line_by j) other)
+bare_by p j line other same = grind arith
 
 pub calls_by : (j : ℕ) (s : State) (line : Option Seen) → calls_timer s (option_map (line_by j) line) ≡ calls_timer s line
 calls_by j s line = grind arith

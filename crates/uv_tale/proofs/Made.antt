@@ -1,17 +1,5 @@
 -- What a tale makes of a form: its names, its slots and its lists. Each name that holds something has the next slot.
-use Rattle.std.proofs.Common.{ℕ, zero, suc, ◌+◌, ◌-◌, ◌++◌, List, [], ◌∷◌, length, replicate, Option, Some, None}
-use Rattle.std.specs.Prelude.{map, option_map}
-use Rattle.uv_ids.specs.declared.due.Due.{Due}
-use Rattle.uv_ids.specs.declared.id.Id.{Id}
-use Rattle.uv_records.specs.declared.named.Named.{Named}
-use Rattle.uv_records.specs.declared.slot.Slot.{Slot}
-use Rattle.uv_records.specs.Slots.{Slots}
-use Rattle.uv_records.specs.Walks.{Walk}
-use Rattle.uv_work.specs.declared.content.Content.{Content}
-use Rattle.uv_model.specs.State.{State}
-use Rattle.uv_slots.specs.Buried.{dead_id}
-use Rattle.uv_workers.specs.Workers.{ordered}
-use Rattle.uv_tale.specs.Tale.{Bound, Nothing, Gone, Holds, Told, Tale, as_id, name_at}
+use Rattle.uv_tale.proofs.Names.{ℕ, zero, suc, ◌+◌, ◌-◌, ◌++◌, List, [], ◌∷◌, length, replicate, Option, Some, None, map, option_map, Due, Id, Named, Slot, Slots, Walk, Content, State, dead_id, ordered, Bound, Nothing, Gone, Holds, Told, Tale, as_id, name_at}
 
 -- ---- places
 

@@ -1,39 +1,7 @@
 -- The slots, the names and the lists of a state's form by names are those that its tale makes.
-use Rattle.std.proofs.Common.{◌≡◌, ℕ, suc, ◌+◌, ◌-◌, ◌++◌, ◌<◌, ◌≤◌, ◌||◌, List, [], ◌∷◌, length, drop, replicate, true, Option, Some, None, refl, ap, sym, ◌∙◌, arith, length-append, slice_get, inl, inr}
-use Rattle.std.specs.Prelude.{map, option_map, unwrap_or}
-use Rattle.std.proofs.lemmas.Bool.{or_right}
-use Rattle.std.proofs.lemmas.List.{append-nil}
-use Rattle.std.proofs.lemmas.Option.{slice_get-map, slice_get_past}
-use Rattle.uv_ids.specs.declared.due.Due.{Due}
-use Rattle.uv_ids.specs.declared.id.Id.{Id}
-use Rattle.uv_records.specs.declared.named.Named.{Named}
-use Rattle.uv_records.specs.declared.slot.Slot.{Slot}
-use Rattle.uv_records.specs.Names.{unbound}
-use Rattle.uv_records.specs.Slots.{held}
-use Rattle.uv_records.specs.Walks.{Walk}
-use Rattle.uv_script.specs.Program.{Program, arena_size}
-use Rattle.uv_work.specs.declared.content.Content.{Content}
-use Rattle.uv_model.specs.State.{State, named}
-use Rattle.uv_model.specs.Ids.{same_id}
-use Rattle.uv_order.specs.Active.{has_id, run_ids, Has}
-use Rattle.uv_shift.specs.Shift.{By}
-use Rattle.uv_shift.specs.Earliest.{back, base, earlier}
-use Rattle.uv_shift.specs.Retimed.{Retiming, retimed_entry, retimed_slot}
-use Rattle.uv_generations.specs.Renamed.{Renaming, rename, renamed_entry, renamed_named, renamed_slots, renamed_walk}
-use Rattle.uv_generations.specs.Youngest.{IsInSlot, freed_less, least_bound, least_of, or_bound, surplus}
-use Rattle.uv_generations.specs.More.{Frees}
-use Rattle.uv_names.specs.Counts.{capped, capped_name}
-use Rattle.uv_names.specs.Stale.{staled, staled_by, staled_id, staled_name}
-use Rattle.uv_slots.specs.Arranged.{arranged, arranged_entry, arranged_id, arranged_named, arranged_slots, arranged_walk, picked, place_of, times}
-use Rattle.uv_slots.specs.Buried.{buried, buried_by, buried_id, buried_name, dead_id}
-use Rattle.uv_alike.specs.Contents.{name_in}
-use Rattle.uv_slots.specs.NamedForm.{named_order, slots_bound, vacancies}
-use Rattle.uv_slots.proofs.Orders.{Fits, get_arranged, length_arranged, place_behind}
-use Rattle.uv_slots.proofs.Whole.{IsWhole, tidy_whole}
-use Rattle.uv_workers.specs.Workers.{ordered}
-use Rattle.uv_workers.proofs.Runs.{map_ordered}
-use Rattle.uv_tale.specs.Alike.{IsRegular}
-use Rattle.uv_tale.specs.Tale.{Told, as_id, bound_by, bound_to, name_at, names_at, number_of, run_names, runs_at, told_name, walk_at}
+use Rattle.uv_tale.proofs.Names.{◌≡◌, ℕ, suc, ◌+◌, ◌-◌, ◌++◌, ◌<◌, ◌≤◌, ◌||◌, List, [], ◌∷◌, length, drop, replicate, true, Option, Some, None, refl, ap, sym, ◌∙◌, arith, length-append, slice_get, inl, inr, map, option_map, unwrap_or, or_right, append-nil, slice_get-map, slice_get_past, Due, Id, Named, Slot, unbound, held, Walk, Program, arena_size, Content, State, named, same_id, has_id, run_ids, Has, By, base, earlier, Retiming, retimed_entry, retimed_slot, Renaming, renamed_entry, renamed_slots, renamed_walk, IsInSlot, freed_less, least_bound, least_of, or_bound, surplus, Frees, capped, capped_name, staled, staled_by, staled_id, staled_name, arranged, arranged_entry, arranged_id, arranged_named, arranged_slots, arranged_walk, picked, place_of, times, buried, buried_by, buried_id, buried_name, dead_id, named_order, slots_bound, vacancies, Fits, get_arranged, length_arranged, place_behind, IsWhole, tidy_whole, ordered, map_ordered, IsRegular, Told, as_id, bound_by, bound_to, name_at, names_at, number_of, run_names, runs_at, told_name, walk_at, name_in}
+use Rattle.uv_shift.specs.Earliest.{back}
+use Rattle.uv_generations.specs.Renamed.{rename, renamed_named}
 use Rattle.uv_tale.proofs.Made.{bound_told, empty_slot, id_told, list_told, named_entry, names_told, numbers_from, place_id, place_told, slots_held, timer_told, walk_told}
 use Rattle.uv_tale.proofs.Places.{IsThere, all_picked, at_place, clean, free_placed, held_length, is_there, placed, told}
 

@@ -1,19 +1,28 @@
 -- The names that proofs of this crate bring in.
-pub use Rattle.std.proofs.Common.{◌||◌, subst, inl, inr}
-pub use Rattle.std.specs.Prelude.{◌≤◌, ◌<◌, ◌^◌, map, option_map, option_to_list}
-pub use Rattle.std.proofs.lemmas.Option.{slice_get_past}
-pub use Rattle.std.proofs.lemmas.List.{map-append}
-pub use Rattle.uv_records.specs.Handles.{is_timer}
-pub use Rattle.uv_records.specs.Walks.{Walk}
-pub use Rattle.uv_model.specs.Next.{Next, Refuses, next, first_due}
-pub use Rattle.uv_order.specs.Active.{has_id, run_ids, Has, IsTimer, AreTimers, InOrder, Before}
-pub use Rattle.uv_shift.specs.Shift.{By, later, shift, ClockFits, TimesFit}
-pub use Rattle.uv_shift.specs.Earliest.{earliest, IsTimed}
-pub use Rattle.uv_generations.specs.More.{Frees, more}
-pub use Rattle.uv_generations.specs.Youngest.{surplus, IsInSlot, IsYoung}
-pub use Rattle.uv_slots.specs.Arranged.{IsOrder, place_of, arranged_id, arranged_walk, arranged_entry, arranged}
-pub use Rattle.uv_slots.specs.NamedForm.{slot_bound, slots_bound, named_order}
-pub use Rattle.uv_slots.specs.Buried.{buried_by, buried_id, buried_name, buried, buried_next}
-pub use Rattle.uv_slots.proofs.Orders.{Fits, number_at, same_place}
-pub use Rattle.uv_slots.proofs.Arranging.{held_arranged, handle_arranged, front_arranged, arranged_pair}
+pub use Rattle.uv_order.proofs.Names.{AreTimers, Before, Body, Bool, Calls, Content, Due, Event, Finish, HandleRecord, Has, Id, InOrder, Less, List, Main, Moves, Named, Next, None, Option, Place, Program, Refuses, Seen, Slot, Slots, Some, State, Take, Var, Walk, WatcherKind, [], ap, append_assoc, arena_size, arith, drop, due_cmp, due_cmp_total, false, first_due, front, handle, handle_in, has_id, held, held_in, inl, inr, is_timer, length, map, map-append, named, nat_tests, none-some, option_and_then, option_map, option_to_list, or_right, refl, replicate, run_ids, same_Some, same_id, slice_get, slice_get_past, subst, suc, sym, true, unbound, unwrap_or, watched, zero, ℕ, ◌&&◌, ◌++◌, ◌+◌, ◌-◌, ◌<◌, ◌==◌, ◌||◌, ◌∙◌, ◌∷◌, ◌≡◌, ◌≤◌}
+pub use Rattle.uv_shift.proofs.Names.{By, ClockFits, IsTimed, IsTimer, Retiming, TimesFit, base, earlier, earliest, later, least_start, min, or_first, or_over, retimed, retimed_content, retimed_entry, retimed_handle, retimed_place, retimed_slot, shift, shift_line, shift_next, ◌^◌}
+pub use Rattle.uv_slots.proofs.Names.{IsOrder, IsTidy, Running, StaysKept, ap₂, arranged, arranged_entry, arranged_id, arranged_next, arranged_slots, buried, buried_id, buried_name, buried_next, dead_id, length-append, length-map, name_in, named_order, next, picked, place_of, slice_get-map, slice_get_cases, slot_bound, slots_bound, times, vacancies}
+pub use Rattle.std.proofs.lemmas.List.{append-nil}
+pub use Rattle.uv_generations.proofs.More.{rename, renamed_named}
+pub use Rattle.uv_generations.proofs.Slots.{get_renamed, held_renamed}
+pub use Rattle.uv_generations.specs.More.{Frees, more, more_line, more_next}
+pub use Rattle.uv_generations.specs.Renamed.{Renaming, renamed, renamed_entry, renamed_slots, renamed_walk}
+pub use Rattle.uv_generations.specs.Youngest.{IsInSlot, IsYoung, freed_less, least_bound, least_of, or_bound, surplus, youngest}
+pub use Rattle.uv_names.proofs.Counted.{counts_capped, twice}
+pub use Rattle.uv_names.proofs.Stales.{held_same, names_staled}
+pub use Rattle.uv_names.specs.Counts.{AreBefore, capped, capped_body, capped_calls, capped_name, capped_next, capped_place}
+pub use Rattle.uv_names.specs.Stale.{staled, staled_by, staled_id, staled_name, staled_next}
+pub use Rattle.uv_shift.proofs.Base.{earliest_later, earliest_same}
+pub use Rattle.uv_slots.proofs.Arranging.{arranged_pair, first_due_arranged, front_arranged, handle_arranged, held_arranged, next_arranged}
+pub use Rattle.uv_slots.proofs.Buries.{dead_gone, names_buried}
+pub use Rattle.uv_slots.proofs.Grows.{HasUsed, next_grows}
+pub use Rattle.uv_slots.proofs.Moved.{place_number, placed_once, stands}
+pub use Rattle.uv_slots.proofs.Orders.{Fits, get_arranged, length_arranged, number_at, place_behind, same_place}
 pub use Rattle.uv_slots.proofs.Whole.{IsWhole, tidy_whole}
+pub use Rattle.uv_slots.specs.Arranged.{arranged_line, arranged_named, arranged_walk}
+pub use Rattle.uv_slots.specs.Buried.{buried_by}
+pub use Rattle.uv_slots.specs.NamedForm.{named_form}
+pub use Rattle.uv_tale.specs.Alike.{IsRegular, LeadsRegular, NextAlike, bare_line, calls_timer, holds_timer, normal, pooled, reduced, told_line}
+pub use Rattle.uv_tale.specs.Tale.{Bound, Gone, Holds, Nothing, Tale, Told, as_id, bound_by, bound_to, name_at, names_at, number_of, run_names, runs_at, tale, tale_by, told_name, walk_at}
+pub use Rattle.uv_workers.proofs.Runs.{map_ordered}
+pub use Rattle.uv_workers.specs.Workers.{is_of_worker, line_by, next_by, ordered, orderly, orderly_next}

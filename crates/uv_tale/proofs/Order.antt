@@ -1,7 +1,5 @@
 -- Places of an order.
-use Rattle.uv_alike.proofs.Names.{◌≡◌, ℕ, List, arith}
-use Rattle.uv_tale.proofs.Names.{IsOrder, place_of, same_place}
-use Rattle.std.proofs.lemmas.Bool.Decides.{nat_tests}
+use Rattle.uv_tale.proofs.Names.{◌≡◌, ℕ, List, arith, IsOrder, place_of, same_place, nat_tests}
 
 -- no two numbers have one place
 pub one_place : (o : List ℕ) (a b : ℕ) → IsOrder o → place_of o a ≡ place_of o b → a ≡ b

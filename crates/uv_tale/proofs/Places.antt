@@ -1,19 +1,5 @@
 -- Where the slots of a state go in the order of its names: to the places that its tale tells.
-use Rattle.std.proofs.Common.{◌≡◌, ℕ, zero, suc, ◌+◌, ◌++◌, ◌<◌, List, [], ◌∷◌, length, replicate, Option, Some, None, refl, ap, sym, ◌∙◌, arith, append_assoc, length-append, slice_get}
-use Rattle.std.specs.Prelude.{map, option_map, option_to_list}
-use Rattle.std.proofs.lemmas.List.{map-append}
-use Rattle.uv_ids.specs.declared.id.Id.{Id}
-use Rattle.uv_records.specs.declared.named.Named.{Named}
-use Rattle.uv_records.specs.declared.slot.Slot.{Slot}
-use Rattle.uv_records.specs.Slots.{held}
-use Rattle.uv_work.specs.declared.content.Content.{Content}
-use Rattle.uv_shift.specs.Shift.{By}
-use Rattle.uv_shift.specs.Earliest.{earlier}
-use Rattle.uv_shift.specs.Retimed.{retimed_content}
-use Rattle.uv_slots.specs.Arranged.{times, IsOrder, place_of, picked}
-use Rattle.uv_slots.specs.NamedForm.{slot_bound, slots_bound, vacancies}
-use Rattle.uv_slots.proofs.Moved.{stands, placed_once}
-use Rattle.uv_tale.specs.Tale.{Told, bound_by, bound_to, told_name}
+use Rattle.uv_tale.proofs.Names.{◌≡◌, ℕ, zero, suc, ◌+◌, ◌++◌, ◌<◌, List, [], ◌∷◌, length, replicate, Option, Some, None, refl, ap, sym, ◌∙◌, arith, append_assoc, length-append, slice_get, map, option_map, option_to_list, map-append, Id, Named, Slot, held, Content, By, earlier, retimed_content, times, IsOrder, place_of, picked, slot_bound, slots_bound, vacancies, stands, placed_once, Told, bound_by, bound_to, told_name}
 use Rattle.uv_tale.proofs.Made.{holding, place_told, slot_told, slots_held, empty_slot, numbers_from}
 
 -- ---- the place of a number

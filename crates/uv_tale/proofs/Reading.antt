@@ -1,12 +1,5 @@
 -- What is read off a tale is the same of states of which the same is told.
-use Rattle.std.proofs.Common.{◌≡◌, ℕ, ap, sym, ◌∙◌}
-use Rattle.uv_script.specs.Program.{Program}
-use Rattle.uv_model.specs.State.{State}
-use Rattle.uv_shift.specs.Shift.{By, shift}
-use Rattle.uv_shift.specs.Earliest.{base, earliest}
-use Rattle.uv_shift.proofs.Base.{earliest_later}
-use Rattle.uv_tale.specs.Alike.{IsRegular}
-use Rattle.uv_tale.specs.Tale.{Tale, tale}
+use Rattle.uv_tale.proofs.Names.{◌≡◌, ℕ, ap, sym, ◌∙◌, Program, State, By, shift, base, earliest, earliest_later, IsRegular, Tale, tale}
 use Rattle.uv_tale.proofs.Told.{tale_now, tale_earliest}
 
 -- what is read of a state is read off its tale with the times as they are, and is the same at all times

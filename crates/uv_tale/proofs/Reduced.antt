@@ -1,18 +1,5 @@
 -- A step of a state whose counts go no further than to a number, and whose names forget earlier generations.
-use Rattle.std.proofs.Common.{◌≡◌, ℕ, List, [], ◌∷◌, refl, ap, sym, ◌∙◌}
-use Rattle.std.specs.Prelude.{map}
-use Rattle.uv_ids.specs.declared.event.Event.{Event}
-use Rattle.uv_records.specs.declared.named.Named.{Named}
-use Rattle.uv_records.specs.declared.slot.Slot.{Slot}
-use Rattle.uv_script.specs.Program.{Program}
-use Rattle.uv_work.specs.declared.content.Content.{Content}
-use Rattle.uv_model.specs.State.{State}
-use Rattle.uv_model.specs.Next.{Next, Moves, Refuses, next}
-use Rattle.uv_names.specs.Counts.{capped, capped_name, capped_next, AreBefore}
-use Rattle.uv_names.specs.Stale.{staled, staled_name, staled_next}
-use Rattle.uv_names.proofs.Counted.{counts_capped}
-use Rattle.uv_names.proofs.Stales.{names_staled}
-use Rattle.uv_tale.proofs.Normal.{reduced}
+use Rattle.uv_tale.proofs.Names.{◌≡◌, ℕ, List, [], ◌∷◌, refl, ap, sym, ◌∙◌, map, Event, Named, Slot, Program, Content, State, Next, Moves, Refuses, next, capped, capped_name, capped_next, AreBefore, staled, staled_name, staled_next, counts_capped, names_staled, reduced}
 
 names_apart : (n : ℕ) (slots : List (Slot Content)) (names : List Named) →
     map (capped_name n) (map (staled_name slots) names) ≡ map (staled_name slots) (map (capped_name n) names)

@@ -1,28 +1,7 @@
 -- The active timers, by their names, are told by what the names hold: they stand in the order in which they are due.
-use Rattle.std.proofs.Common.{◌≡◌, ℕ, inl, inr, List, [], ◌∷◌, true, Option, Some, None, refl, ap, sym, subst, ◌∙◌, arith, option_and_then, slice_get}
-use Rattle.std.specs.Prelude.{map, option_map, unwrap_or}
-use Rattle.std.specs.declared.cmp.Ordering.TheVariants.{Less}
-use Rattle.std.proofs.lemmas.Option.{none-some, same_Some, slice_get-map}
-use Rattle.uv_ids.specs.Due.{due_cmp}
-use Rattle.uv_ids.specs.declared.due.Due.{Due}
-use Rattle.uv_ids.specs.declared.id.Id.{Id}
-use Rattle.uv_ids.specs.declared.id.Var.{Var}
+use Rattle.uv_tale.proofs.Names.{◌≡◌, ℕ, inl, inr, List, [], ◌∷◌, true, Option, Some, None, refl, ap, sym, subst, ◌∙◌, arith, option_and_then, slice_get, map, option_map, unwrap_or, none-some, same_Some, slice_get-map, Due, Id, HandleRecord, Named, Slot, unbound, held, held_in, Content, State, named, Has, Before, InOrder, IsTimer, AreTimers, base, earlier, earliest, Retiming, retimed_content, retimed_handle, retimed_slot, IsTidy, Told, Holds, as_id, bound_by, bound_to, name_at, number_of, tale, told_name, Less, due_cmp, Var, handle_in, due_cmp_total}
 use Rattle.uv_ids.specs.declared.phase.Kind.TheVariants as kind
-use Rattle.uv_records.specs.declared.handle.HandleRecord.{HandleRecord}
-use Rattle.uv_records.specs.declared.named.Named.{Named}
-use Rattle.uv_records.specs.declared.slot.Slot.{Slot}
-use Rattle.uv_records.specs.Names.{unbound}
-use Rattle.uv_records.specs.Slots.{held, held_in}
-use Rattle.uv_work.specs.declared.content.Content.{Content}
 use Rattle.uv_work.specs.declared.content.Content.TheVariants as content
-use Rattle.uv_model.specs.Content.{handle_in}
-use Rattle.uv_model.specs.State.{State, named}
-use Rattle.uv_model.proofs.Order.{due_cmp_total}
-use Rattle.uv_order.specs.Active.{Has, Before, InOrder, IsTimer, AreTimers}
-use Rattle.uv_shift.specs.Earliest.{base, earlier, earliest}
-use Rattle.uv_shift.specs.Retimed.{Retiming, retimed_content, retimed_handle, retimed_slot}
-use Rattle.uv_slots.specs.NamedForm.{IsTidy}
-use Rattle.uv_tale.specs.Tale.{Told, Holds, as_id, bound_by, bound_to, name_at, number_of, tale, told_name}
 use Rattle.uv_tale.proofs.Made.{named_entry}
 
 -- ---- two lists in that order, with the same entries

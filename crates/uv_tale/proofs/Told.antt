@@ -1,40 +1,6 @@
 -- What each change that a form takes away leaves is told as before.
-use Rattle.std.proofs.Common.{◌≡◌, ℕ, suc, ◌+◌, ◌≤◌, List, [], ◌∷◌, length, Option, Some, None, refl, ap, ap₂, sym, ◌∙◌}
-use Rattle.std.specs.Prelude.{map, min, option_map}
-use Rattle.std.proofs.lemmas.List.{length-map}
-use Rattle.uv_ids.specs.declared.due.Due.{Due}
-use Rattle.uv_ids.specs.declared.id.Id.{Id}
-use Rattle.uv_records.specs.declared.named.Calls.{Calls}
-use Rattle.uv_records.specs.declared.named.Named.{Named}
-use Rattle.uv_records.specs.declared.slot.Slot.{Slot}
-use Rattle.uv_records.specs.Slots.{Slots, held}
-use Rattle.uv_records.specs.Walks.{Walk}
-use Rattle.uv_work.specs.declared.content.Content.{Content}
+use Rattle.uv_tale.proofs.Names.{◌≡◌, ℕ, suc, ◌+◌, ◌≤◌, List, [], ◌∷◌, length, Option, Some, None, refl, ap, ap₂, sym, ◌∙◌, map, min, option_map, length-map, Due, Id, Named, Slot, Slots, held, Walk, Content, Place, Main, Running, State, By, shift, base, earlier, earliest, or_first, or_over, Retiming, retimed_content, retimed_place, retimed_slot, earliest_same, Frees, more, Renaming, renamed_slots, held_renamed, capped_body, capped_calls, capped_name, capped_place, staled_id, staled_name, twice, held_same, reduced, arranged, buried, buried_by, buried_id, buried_name, dead_gone, Fits, length_arranged, held_arranged, ordered, orderly, map_ordered, Bound, Nothing, Gone, Holds, Told, Tale, as_id, bound_by, bound_to, name_at, names_at, number_of, runs_at, tale, tale_by, told_name, walk_at, Calls, Body}
 use Rattle.uv_work.specs.declared.content.Content.TheVariants as content
-use Rattle.uv_model.specs.declared.place.Body.{Body}
-use Rattle.uv_model.specs.declared.place.Place.{Place}
-use Rattle.uv_model.specs.declared.place.Place.TheVariants.{Main, Running}
-use Rattle.uv_model.specs.State.{State}
-use Rattle.uv_shift.specs.Shift.{By, shift}
-use Rattle.uv_shift.specs.Earliest.{base, earlier, earliest, or_first, or_over}
-use Rattle.uv_shift.specs.Retimed.{Retiming, retimed_content, retimed_place, retimed_slot}
-use Rattle.uv_shift.proofs.Base.{earliest_same}
-use Rattle.uv_generations.specs.More.{Frees, more}
-use Rattle.uv_generations.proofs.More.{renamed_slots}
-use Rattle.uv_generations.proofs.Slots.{held_renamed}
-use Rattle.uv_names.specs.Counts.{capped_body, capped_calls, capped_name, capped_place}
-use Rattle.uv_names.specs.Stale.{staled_id, staled_name}
-use Rattle.uv_names.proofs.Counted.{twice}
-use Rattle.uv_names.proofs.Stales.{held_same}
-use Rattle.uv_tale.proofs.Normal.{reduced}
-use Rattle.uv_slots.specs.Arranged.{arranged}
-use Rattle.uv_slots.specs.Buried.{buried, buried_by, buried_id, buried_name}
-use Rattle.uv_slots.proofs.Buries.{dead_gone}
-use Rattle.uv_slots.proofs.Orders.{Fits, length_arranged}
-use Rattle.uv_slots.proofs.Arranging.{held_arranged}
-use Rattle.uv_workers.specs.Workers.{ordered, orderly}
-use Rattle.uv_workers.proofs.Runs.{map_ordered}
-use Rattle.uv_tale.specs.Tale.{Bound, Nothing, Gone, Holds, Told, Tale, as_id, bound_by, bound_to, name_at, names_at, number_of, runs_at, tale, tale_by, told_name, walk_at}
 use Rattle.uv_tale.proofs.Form.{first_other, over_capped, start_other}
 use Rattle.uv_tale.proofs.Timers.{held_retimed}
 
@@ -157,9 +123,9 @@ module _ (slots other : List (Slot Content)) (g : Id → Id) (same : (id : Id) �
       (option_map (λ (id : Id). as_id (name_at slots id))) run_other xs)
 
 -- generations are no matter to how many slots there are
-length_renamed : (k : Frees) (slots : List (Slot Content)) → length (renamed_slots k slots) ≡ length slots
-length_renamed k [] = refl
-length_renamed k (x ∷ xs) = ap suc (length_renamed (λ n. k (suc n)) xs)
+pub length_renamed : (f : Renaming) (slots : List (Slot Content)) → length (renamed_slots f slots) ≡ length slots
+length_renamed f [] = refl
+length_renamed f (x ∷ xs) = ap suc (length_renamed (λ n. f (suc n)) xs)
 
 -- a state with other ids, and other slots
 abbrev with_ids : (Id → Id) → List (Slot Content) → List ℕ → State → State

@@ -1,5 +1,5 @@
 -- Steps that are alike, of two states of which the same is told.
-use Rattle.std.specs.Prelude.{◌≡◌, ◌+◌, Bool, false, Option, Some, option_map}
+use Rattle.std.specs.Prelude.{◌≡◌, ◌+◌, ℕ, Bool, false, Option, Some, option_map}
 use Rattle.uv_ids.specs.declared.id.Id.{Id}
 use Rattle.uv_ids.specs.declared.code.Answer.{Answer}
 use Rattle.uv_ids.specs.declared.code.Answer.TheVariants as answer
@@ -12,10 +12,14 @@ use Rattle.uv_work.specs.declared.content.Content.TheVariants as content
 use Rattle.uv_script.specs.Program.{Program, arena_size}
 use Rattle.uv_model.specs.State.{State}
 use Rattle.uv_model.specs.Next.{Next, Moves, Refuses}
-use Rattle.uv_shift.specs.Earliest.{IsTimed, untimed_line}
-use Rattle.uv_generations.specs.Youngest.{IsYoung}
+use Rattle.uv_shift.specs.Earliest.{IsTimed, earliest, untimed_line}
+use Rattle.uv_generations.specs.Renamed.{renamed_line}
+use Rattle.uv_generations.specs.Youngest.{IsYoung, youngest}
+use Rattle.uv_names.specs.Counts.{capped}
+use Rattle.uv_names.specs.Stale.{staled}
 use Rattle.uv_slots.specs.Buried.{CanBury}
 use Rattle.uv_slots.specs.NamedForm.{IsTidy}
+use Rattle.uv_workers.specs.Workers.{orderly}
 
 -- what holds of each state that few steps lead to, in a script whose numbers are small and whose ops name declared names
 pub record IsRegular (p : Program) (s : State) : Type 0 where
@@ -52,6 +56,24 @@ idless_line line = line
 
 abbrev pub told_line : Program → Seen → Seen
 told_line p line = untimed_line p (idless_line line)
+
+-- ---- the pooled form of a state, which keeps its slots, and a line that keeps them
+
+-- counts go no further, and names forget earlier generations
+abbrev pub reduced : ℕ → State → State
+reduced n s = capped n (staled s)
+
+-- times, numbers of starts and generations are as small as they can be
+abbrev pub normal : ℕ → State → State
+normal n s = youngest (earliest (reduced n s))
+
+-- it is forgotten which worker runs which request
+abbrev pub pooled : ℕ → State → State
+pooled n s = orderly (normal n s)
+
+-- a line whose ids have no generation, without the time that the op `now` answers
+abbrev pub bare_line : Program → Seen → Seen
+bare_line p line = untimed_line p (renamed_line (λ slot generation. 0) line)
 
 -- ---- steps that are the same except for what a form of states, and one of lines, leave out
 

@@ -1,14 +1,11 @@
 -- The tests of the code decide which commands there are.
-use Rattle.uv_text.proofs.Names.{if◌then◌else◌, Bool, ◌≡◌, ℕ, ◌≤◌, List, [], ◌∷◌, true, false, ◌&&◌, nat_le, Option, Some, None, option_map, refl, ap, sym, ◌∙◌, bytes_eq, same_Some, and_parts, cond_both, leb-true, le-leb, both_ways, Var, Code, Event, Program, has_step, Take, Finish, Cancel, Send, Io, Tick, Phase, code_word, phase_word, fields_of, IsLine, IsNumber, IsDeclared, is_line, is_skipped, line_begins, is_line_decides, is_skipped_decides, number_of-sound, number_of-complete, place_of-sound, place_of-finds, AreDistinct, declared_contains, place_complete, Break, Command, Step, Back, Forward, AddBreak, Asked, Nothing, Do, Bad, IsBreak, IsStep, IsCommand, IsNoCommand, Asks, nothing, command, bad, MOST, LAST_WORKER, section_of, break_of, command_alone, worker_step, step_by, command_by, clears, command_with, command_with_two, command_of, asked_for, asked_of}
-use Rattle.std.proofs.Common.{codes}
-use Rattle.std.specs.Prelude.{IfSome}
+use Rattle.uv_text.proofs.Names.{if◌then◌else◌, Bool, ◌≡◌, ℕ, ◌≤◌, List, [], ◌∷◌, true, false, ◌&&◌, nat_le, Option, Some, None, option_map, refl, ap, sym, ◌∙◌, bytes_eq, same_Some, and_parts, cond_both, leb-true, le-leb, both_ways, Var, Code, Event, Program, has_step, Take, Finish, Cancel, Send, Io, Tick, Phase, code_word, phase_word, fields_of, IsLine, IsNumber, IsDeclared, is_line, is_skipped, line_begins, is_line_decides, is_skipped_decides, number_of-sound, number_of-complete, place_of-sound, place_of-finds, AreDistinct, declared_contains, place_complete, Break, Command, Step, Back, Forward, AddBreak, Asked, Nothing, Do, Bad, IsBreak, IsStep, IsCommand, IsNoCommand, Asks, nothing, command, bad, MOST, LAST_WORKER, section_of, break_of, command_alone, worker_step, step_by, command_by, clears, command_with, command_with_two, command_of, asked_for, asked_of, codes, IfSome, code_named, number_of, StateOf}
 use Rattle.uv_ids.specs.declared.phase.Phase.TheVariants as phase
-use Rattle.uv_ids.specs.Words.{code_named, phase_named}
+use Rattle.uv_ids.specs.Words.{phase_named}
 use Rattle.uv_ids.proofs.Words.{same, code_right, code_found, phase_right}
-use Rattle.uv_script.specs.Checks.{number_of}
 use Rattle.uv_script.specs.Reading.{place_of}
 use Rattle.uv_session.specs.declared.breaks.Break.TheVariants as at
-use Rattle.uv_text.specs.declared.command.Command.TheVariants.{Loop, StateOf}
+use Rattle.uv_text.specs.declared.command.Command.TheVariants.{Loop}
 use Rattle.uv_text.specs.Commands as is
 
 section_found : (x : Phase) → section_of (phase_word x) ≡ Some (at.Section x)

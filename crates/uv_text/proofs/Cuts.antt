@@ -1,7 +1,5 @@
 -- Texts that memory cuts short.
-use Rattle.uv_script.specs.Writes.{CutShort}
-use Rattle.uv_script.proofs.Writing.{Begins, begins_itself, begins_more, cut_behind}
-use Rattle.uv_text.proofs.Names.{◌≡◌, ℕ, zero, suc, ◌+◌, ◌-◌, ◌<◌, List, ◌++◌, length, take, get_or, ap, sym, subst, ◌∙◌, arith, take_all, flat_map}
+use Rattle.uv_text.proofs.Names.{CutShort, Begins, begins_itself, begins_more, cut_behind, ◌≡◌, ℕ, zero, suc, ◌+◌, ◌-◌, ◌<◌, List, ◌++◌, length, take, get_or, ap, sym, subst, ◌∙◌, arith, take_all, flat_map}
 use Rattle.uv_text.proofs.Pieces.{flat_map-more}
 
 -- a piece is cut short behind these

@@ -1,7 +1,7 @@
 pub mod Commands
 pub mod Cuts
 mod Digits
-mod Names
+pub mod Names
 pub mod Pieces
 pub mod Played
 pub mod Printed

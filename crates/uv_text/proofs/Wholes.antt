@@ -1,12 +1,11 @@
 -- The parts of a text, one after another, are all of it.
-use Rattle.uv_text.proofs.Names.{◌≡◌, ℕ, zero, suc, ◌+◌, ◌-◌, ◌*◌, ◌<◌, ◌==◌, nat_le, nat_lt, List, [], ◌∷◌, ◌++◌, length, map, Option, Some, None, option_to_list, Result, slice_get, refl, ap, sym, subst, ◌∙◌, arith, append_assoc, append-nil, codes, flat_map, cond-true, cond-false, le-leb, lt-leb, lt-ltb, eq-eqb, ne_eqb, Event, Seen, Program, lines_text, LaidSlot, Layout, State, numbers, length-seen_by, Shown, parts_from, names_upto, slots_upto, LAST_PARTS, name_part, slot_part, part_count, text_after, state_text, state_part, state_parts, links_from, named_ends, link_part, LAYOUT_PARTS, layout_parts, step_line, step_part, called_part, callback_lines, recording_parts}
-use Rattle.uv_script.specs.Writes.{Writes}
-use Rattle.uv_model.specs.After.{seen_by, lines}
+use Rattle.uv_text.proofs.Names.{◌≡◌, ℕ, zero, suc, ◌+◌, ◌-◌, ◌*◌, ◌<◌, ◌==◌, nat_le, nat_lt, List, [], ◌∷◌, ◌++◌, length, map, Option, Some, None, option_to_list, Result, slice_get, refl, ap, sym, subst, ◌∙◌, arith, append_assoc, append-nil, codes, flat_map, cond-true, cond-false, le-leb, lt-leb, lt-ltb, eq-eqb, ne_eqb, Event, Seen, Program, lines_text, LaidSlot, Layout, State, numbers, length-seen_by, Shown, parts_from, names_upto, slots_upto, LAST_PARTS, name_part, slot_part, part_count, text_after, state_text, state_part, state_parts, links_from, named_ends, link_part, LAYOUT_PARTS, layout_parts, step_line, step_part, called_part, callback_lines, recording_parts, Writes, lines, places_line, counts_line, seen_text, appended_part}
+use Rattle.uv_model.specs.After.{seen_by}
 use Rattle.uv_text.specs.Parts.{in_parts}
 use Rattle.uv_text.specs.State.{steps_line, place_line, free_line, unused_line, lists_text, last_part, part_after}
-use Rattle.uv_text.specs.Image.{link_line, ends_line, heap_line, places_line, counts_line, rest_part, layout_part, layout_text}
+use Rattle.uv_text.specs.Image.{link_line, ends_line, heap_line, rest_part, layout_part, layout_text}
 use Rattle.uv_text.specs.Recording.{script_part, recording_part, recording_text}
-use Rattle.uv_text.specs.Trace.{seen_text, appended_part, trace_part}
+use Rattle.uv_text.specs.Trace.{trace_part}
 use Rattle.uv_text.proofs.Recordings.{called_is, steps_are, whole}
 
 -- ---- parts from one on

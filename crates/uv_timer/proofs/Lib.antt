@@ -1,5 +1,5 @@
 mod Collected
 mod Firsts
-mod Names
+pub mod Names
 mod Order
 mod Repeating

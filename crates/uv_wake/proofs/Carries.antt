@@ -1,10 +1,5 @@
 -- An absorb carries the tickets of one epoch.
-use Rattle.std.proofs.Common.{◌≡◌, ◌⊎◌, List, sym, subst, Bool}
-use Rattle.std.specs.List.{Contains}
-use Rattle.uv_ids.specs.declared.id.Var.{Var}
-use Rattle.uv_wake.specs.declared.tickets.Ticket.{Ticket}
-use Rattle.uv_wake.specs.declared.views.LoopView.{LoopView}
-use Rattle.uv_wake.specs.Seats.{Carried, AllCarried, CarriedBy, Carries}
+use Rattle.uv_wake.proofs.ProofNames.{◌≡◌, ◌⊎◌, List, sym, subst, Bool, Contains, Var, Ticket, LoopView, Carried, AllCarried, CarriedBy, Carries}
 
 -- where none of v is left afterwards, each ticket of v was carried before, or by this absorb
 pub once_of : (s s' : LoopView) (v : Var) (took : Bool) → s'.tickets ≡ s.tickets → Carries s v took s' → AllCarried s' v

@@ -1,20 +1,6 @@
 -- Two steps that the rule forbids, whatever proof is tried: an absorb that stores 0, and a send by a look and a store.
 -- Each is shown at a board of one name, on which one sender sent once.
-use Rattle.std.proofs.Common.{◌≡◌, ℕ, zero, suc, ◌+◌, ◌*◌, ◌<◌, ◌≤◌, List, [], ◌∷◌, get_or, sym, refl, ap, ◌∙◌, subst, inl, inr, ⊎_elim, arith, lit<, true, Option, Some, None}
-use Rattle.std.specs.List.{Contains}
-use mathlib.Core.Option.{none, some, some-injective, some-ne-none}
-use lib.ListN.{get_elem?}
-use Rattle.atomic_table.specs.Table.{State, Me, step, Allows}
-use Rattle.uv_ids.specs.declared.id.Var.{Var}
-use Rattle.uv_wake.specs.declared.tickets.Ticket.{Ticket}
-use Rattle.uv_wake.specs.declared.views.LoopView.{LoopView}
-use Rattle.uv_wake.specs.declared.views.SenderView.{SenderView}
-use Rattle.uv_wake.specs.declared.views.View.{View}
-use Rattle.uv_wake.specs.declared.views.View.TheVariants.{Loop, Sender}
-use Rattle.uv_wake.specs.Tickets.{ticket}
-use Rattle.uv_wake.specs.Rule.{list_of, Has, NameKept, Kept}
-use Rattle.uv_wake.specs.Seats.{after_absorb}
-use Rattle.uv_wake.specs.Steps.{loop_of, sender_of, sent, absorbed}
+use Rattle.uv_wake.proofs.ProofNames.{◌≡◌, ℕ, zero, suc, ◌+◌, ◌*◌, ◌<◌, ◌≤◌, List, [], ◌∷◌, get_or, sym, refl, ap, ◌∙◌, subst, inl, inr, ⊎_elim, arith, lit<, true, Option, Some, None, Contains, none, some, some-injective, some-ne-none, get_elem?, State, Me, step, Allows, Var, Ticket, LoopView, SenderView, View, Loop, Sender, ticket, list_of, Has, NameKept, Kept, after_absorb, loop_of, sender_of, sent, absorbed}
 use Rattle.uv_wake.proofs.Lists.{var_ext, none_in}
 
 abbrev name : Var

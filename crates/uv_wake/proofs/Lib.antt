@@ -1,3 +1,4 @@
+pub mod ProofNames
 pub mod Lists
 pub mod Names
 pub mod SenderSteps

@@ -1,18 +1,5 @@
 -- The views of all seats: which tickets their lists have, how many are of senders, and when those were split off.
-use Rattle.std.proofs.Common.{◌≡◌, ◌≢◌, ◌⊎◌, ℕ, zero, suc, ◌+◌, ◌<◌, ◌≤◌, List, [], ◌∷◌, ◌++◌, get_or, set, sym, refl, ap, ◌∙◌, subst, inl, inr, ⊎_elim, arith}
-use Rattle.std.specs.List.{Contains}
-use mathlib.Core.Logic.{dite}
-use mathlib.Core.Option.{some, some-injective, some-ne-none}
-use native.Mathlib.Decide.{ℕ_discrete}
-use lib.ListN.{get_elem?}
-use Rattle.atomic_table.proofs.Lists.{at_set, set_else, at_longer, at_snoc}
-use Rattle.uv_ids.specs.declared.id.Var.{Var}
-use Rattle.uv_wake.specs.declared.tickets.Ticket.{Ticket}
-use Rattle.uv_wake.specs.declared.views.LoopView.{LoopView}
-use Rattle.uv_wake.specs.declared.views.SenderView.{SenderView}
-use Rattle.uv_wake.specs.declared.views.View.{View}
-use Rattle.uv_wake.specs.declared.views.View.TheVariants.{Loop, Sender, Joined}
-use Rattle.uv_wake.specs.Rule.{list_of, senders_in, sender_count, Has, NoneIsAhead}
+use Rattle.uv_wake.proofs.ProofNames.{◌≡◌, ◌≢◌, ◌⊎◌, ℕ, zero, suc, ◌+◌, ◌<◌, ◌≤◌, List, [], ◌∷◌, ◌++◌, get_or, set, sym, refl, ap, ◌∙◌, subst, inl, inr, ⊎_elim, arith, Contains, dite, some, some-injective, some-ne-none, ℕ_discrete, get_elem?, at_set, set_else, at_longer, at_snoc, Var, Ticket, LoopView, SenderView, View, Loop, Sender, Joined, list_of, senders_in, sender_count, Has, NoneIsAhead}
 
 pub var_ext : (u v : Var) → u.0 ≡ v.0 → u ≡ v
 var_ext u v e = λ i. record { 0 = e i }

@@ -1,25 +1,5 @@
 -- Each step of the loop's seat keeps the rule of the board.
-use Rattle.std.proofs.Common.{◌≡◌, ◌≢◌, ℕ, ◌+◌, ◌*◌, ◌%◌, ◌<◌, ◌≤◌, List, [], ◌∷◌, ◌++◌, get_or, set, sym, refl, ap, ◌∙◌, subst, ⊎_elim, arith, true, Some, None}
-use Rattle.std.specs.List.{Contains}
-use Rattle.std.proofs.lemmas.List.{length-set, get_or-set_same, get_or-set_other, set-get_or, get_or_past}
-use Rattle.std.proofs.lemmas.Bool.{eq-eqb, eqb-true, eqb-false}
-use Rattle.std.proofs.lemmas.List.Elements.{Contains-append_left, Contains-append_right, Contains-append_cases}
-use mathlib.Core.Logic.{dite}
-use mathlib.Core.Option.{some, some-injective}
-use native.Mathlib.Decide.{ℕ_discrete, dec_le}
-use lib.ListN.{get_elem?}
-use Rattle.atomic_table.specs.Table.{State}
-use Rattle.atomic_table.proofs.Lists.{set_else, at_longer}
-use Rattle.uv_ids.specs.declared.id.Var.{Var}
-use Rattle.uv_wake.specs.declared.tickets.Ticket.{Ticket}
-use Rattle.uv_wake.specs.declared.views.LoopView.{LoopView}
-use Rattle.uv_wake.specs.declared.views.SenderView.{SenderView}
-use Rattle.uv_wake.specs.declared.views.View.{View}
-use Rattle.uv_wake.specs.declared.views.View.TheVariants.{Loop, Sender, Joined}
-use Rattle.uv_wake.specs.Tickets.{ticket}
-use Rattle.uv_wake.specs.Rule.{list_of, Has, NameKept, NoneIsAhead, Kept}
-use Rattle.uv_wake.specs.Seats.{AllCarried, HasEach, after_absorb}
-use Rattle.uv_wake.specs.Steps.{sender_of, is_odd, Looked}
+use Rattle.uv_wake.proofs.ProofNames.{◌≡◌, ◌≢◌, ℕ, ◌+◌, ◌*◌, ◌%◌, ◌<◌, ◌≤◌, List, [], ◌∷◌, ◌++◌, get_or, set, sym, refl, ap, ◌∙◌, subst, ⊎_elim, arith, true, Some, None, Contains, length-set, get_or-set_same, get_or-set_other, set-get_or, get_or_past, eq-eqb, eqb-true, eqb-false, Contains-append_left, Contains-append_right, Contains-append_cases, dite, some, some-injective, ℕ_discrete, dec_le, get_elem?, State, set_else, at_longer, Var, Ticket, LoopView, SenderView, View, Loop, Sender, Joined, ticket, list_of, Has, NameKept, NoneIsAhead, Kept, AllCarried, HasEach, after_absorb, sender_of, is_odd, Looked}
 use Rattle.uv_wake.proofs.Lists.{var_ext, set_there, none_in, has_after, has_before, has_longer, has_shorter, count_set, count_push, alone_set, alone_push, ahead_set, ahead_push, all_home}
 use Rattle.uv_wake.proofs.Names.{odd_word, stays, absorbed_name}
 

@@ -1,25 +1,6 @@
 -- What the table asks of each step of the loop's seat, and what its seat then is.
-use Rattle.std.proofs.Common.{◌≡◌, ℕ, zero, suc, ◌+◌, ◌*◌, ◌%◌, ◌^◌, ◌<◌, List, [], ◌∷◌, ◌++◌, length, replicate, get_or, set, sym, refl, ap, ◌∙◌, subst, inl, arith, Bool, true, Some, None}
-use Rattle.std.specs.List.{Contains}
-use Rattle.std.proofs.lemmas.List.{length-replicate, get_or-set_same, set-get_or, get_or-replicate}
-use Rattle.std.proofs.lemmas.Bool.{eq-eqb, ne_eqb}
-use mathlib.Core.Logic.{dite}
-use mathlib.Core.Option.{none, some, some-injective, some-ne-none}
-use native.Mathlib.Decide.{ℕ_discrete}
-use lib.ListN.{get_elem?}
-use Rattle.atomic_table.specs.Table.{State, Me, step, keeps, Allows, Splits, Joins, opening}
+use Rattle.uv_wake.proofs.ProofNames.{◌≡◌, ℕ, zero, suc, ◌+◌, ◌*◌, ◌%◌, ◌^◌, ◌<◌, List, [], ◌∷◌, ◌++◌, length, replicate, get_or, set, sym, refl, ap, ◌∙◌, subst, inl, arith, Bool, true, Some, None, Contains, length-replicate, get_or-set_same, set-get_or, get_or-replicate, eq-eqb, ne_eqb, dite, none, some, some-injective, some-ne-none, ℕ_discrete, get_elem?, State, Me, step, keeps, Allows, Splits, Joins, opening, set_else, set_again, Var, Ticket, LoopView, SenderView, View, Loop, Sender, Joined, list_of, Has, NameKept, Kept, at_first, starting, AllCarried, HasEach, after_look, after_absorb, loop_of, sender_of, is_odd, Looked, looked, absorbed, learned, split_left, split_right, joined, IsLoops}
 use Rattle.atomic_table.specs.Seated.{TableId}
-use Rattle.atomic_table.proofs.Lists.{set_else, set_again}
-use Rattle.uv_ids.specs.declared.id.Var.{Var}
-use Rattle.uv_wake.specs.declared.tickets.Ticket.{Ticket}
-use Rattle.uv_wake.specs.declared.views.LoopView.{LoopView}
-use Rattle.uv_wake.specs.declared.views.SenderView.{SenderView}
-use Rattle.uv_wake.specs.declared.views.View.{View}
-use Rattle.uv_wake.specs.declared.views.View.TheVariants.{Loop, Sender, Joined}
-use Rattle.uv_wake.specs.Rule.{list_of, Has, NameKept, Kept, at_first}
-use Rattle.uv_wake.specs.Seats.{starting, AllCarried, HasEach, after_look, after_absorb}
-use Rattle.uv_wake.specs.Steps.{loop_of, sender_of, is_odd, Looked, looked, absorbed, learned, split_left, split_right, joined}
-use Rattle.uv_wake.specs.Passes.{IsLoops}
 use Rattle.uv_wake.proofs.Lists.{var_ext, set_there}
 use Rattle.uv_wake.proofs.LoopKeeps.{none_is_left, complete, look_finds, look_keeps, absorb_keeps, split_keeps, join_keeps}
 

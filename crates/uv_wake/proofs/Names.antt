@@ -1,16 +1,6 @@
 -- What holds of one name, through each kind of step.
-use Rattle.std.proofs.Common.{◌≡◌, ◌≢◌, ◌⊎◌, ℕ, ◌+◌, ◌*◌, ◌/◌, ◌%◌, ◌^◌, ◌≤◌, List, sym, refl, ap, ◌∙◌, subst, inl, inr, ⊎_elim, arith, Option, Some, None}
+use Rattle.uv_wake.proofs.ProofNames.{◌≡◌, ◌≢◌, ◌⊎◌, ℕ, ◌+◌, ◌*◌, ◌/◌, ◌%◌, ◌^◌, ◌≤◌, List, sym, refl, ap, ◌∙◌, subst, inl, inr, ⊎_elim, arith, Option, Some, None, dite, ℕ_discrete, bit_and, bit_or, Var, Ticket, View, ticket, State, count_of, Has, IsWord, NameKept, NoneIsAhead, Kept, EachStands}
 use Rattle.std.proofs.lemmas.Nat.{or_shifted, or_block, or_disjoint, and_le_r}
-use mathlib.Core.Logic.{dite}
-use native.Mathlib.Decide.{ℕ_discrete}
-use lib.Bits.{bit_and, bit_or}
-use Rattle.uv_ids.specs.declared.id.Var.{Var}
-use Rattle.uv_wake.specs.declared.tickets.Ticket.{Ticket}
-use Rattle.uv_wake.specs.declared.views.View.{View}
-use Rattle.uv_wake.specs.Tickets.{ticket}
-use Rattle.atomic_table.specs.Table.{State}
-use Rattle.uv_wake.specs.Seats.{count_of}
-use Rattle.uv_wake.specs.Rule.{Has, IsWord, NameKept, NoneIsAhead, Kept, EachStands}
 
 or_even : (e : ℕ) → bit_or (2 * e) 1 ≡ 2 * e + 1
 or_even e = let h : bit_or (e * 2 ^ 1) 1 ≡ e * 2 ^ 1 + 1 = or_shifted e 1 1 (omega arith) in let swap : 2 * e ≡ e * 2 ^ 1 = omega arith in rw swap h

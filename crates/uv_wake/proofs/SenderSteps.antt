@@ -1,25 +1,5 @@
 -- What the table asks of each step of a sender's seat, and what its seat then is.
-use Rattle.std.proofs.Common.{◌≡◌, ◌⊎◌, ℕ, ◌+◌, ◌/◌, ◌<◌, ◌≤◌, [], ◌∷◌, ◌++◌, get_or, set, sym, ap, ◌∙◌, subst, inl, inr, ⊎_elim, arith}
-use Rattle.std.specs.List.{Contains}
-use Rattle.std.proofs.lemmas.List.{length-set, get_or-set_same, get_or-set_other}
-use Rattle.std.proofs.lemmas.List.Elements.{Contains-append_left, Contains-push, Contains-push_cases}
-use mathlib.Core.Logic.{dite}
-use mathlib.Core.Option.{none, some, some-injective}
-use native.Mathlib.Decide.{ℕ_discrete}
-use lib.Bits.{bit_or}
-use lib.ListN.{get_elem?}
-use Rattle.atomic_table.specs.Table.{State, Me, step, keeps, Allows}
-use Rattle.atomic_table.proofs.Lists.{set_else}
-use Rattle.uv_ids.specs.declared.id.Var.{Var}
-use Rattle.uv_wake.specs.declared.tickets.Ticket.{Ticket}
-use Rattle.uv_wake.specs.declared.views.SenderView.{SenderView}
-use Rattle.uv_wake.specs.declared.views.View.{View}
-use Rattle.uv_wake.specs.declared.views.View.TheVariants.{Loop, Sender}
-use Rattle.uv_wake.specs.Tickets.{ticket}
-use Rattle.uv_wake.specs.Rule.{Has, NameKept, NoneIsAhead, Kept}
-use Rattle.uv_wake.specs.Steps.{sender_of, sent}
-use Rattle.uv_wake.specs.Seats.{after_send}
-use Rattle.uv_wake.specs.Passes.{IsSends}
+use Rattle.uv_wake.proofs.ProofNames.{◌≡◌, ◌⊎◌, ℕ, ◌+◌, ◌/◌, ◌<◌, ◌≤◌, [], ◌∷◌, ◌++◌, get_or, set, sym, ap, ◌∙◌, subst, inl, inr, ⊎_elim, arith, Contains, length-set, get_or-set_same, get_or-set_other, Contains-append_left, Contains-push, Contains-push_cases, dite, none, some, some-injective, ℕ_discrete, bit_or, get_elem?, State, Me, step, keeps, Allows, set_else, Var, Ticket, SenderView, View, Loop, Sender, ticket, Has, NameKept, NoneIsAhead, Kept, sender_of, sent, after_send, IsSends}
 use Rattle.uv_wake.proofs.Lists.{var_ext, set_there, has_after, has_before, count_set, alone_set, ahead_set}
 use Rattle.uv_wake.proofs.Names.{or_one, stays, sent_name}
 

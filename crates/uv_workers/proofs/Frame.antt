@@ -1,25 +1,10 @@
 -- A step that is no worker's reads nothing of what workers run, and leaves it as it is.
-use Rattle.std.proofs.Common.{◌≡◌, List, false, Option, Some, refl, ap, ap₂, sym, ◌∙◌}
-use Rattle.std.proofs.lemmas.List.{map-id}
-use Rattle.uv_ids.specs.declared.event.Event.{Event}
-use Rattle.uv_ids.specs.declared.event.Event.TheVariants.{Take, Finish, Tick}
-use Rattle.uv_ids.specs.declared.id.Id.{Id}
-use Rattle.uv_ids.specs.declared.id.Var.{Var}
-use Rattle.uv_ids.specs.declared.seen.Callback.{Callback}
-use Rattle.uv_ids.specs.declared.seen.Seen.{Seen}
-use Rattle.uv_records.specs.declared.named.Named.{Named}
-use Rattle.uv_records.specs.Names.{count_of, counted}
-use Rattle.uv_script.specs.Program.{Program}
-use Rattle.uv_model.specs.declared.place.Run.{Run}
-use Rattle.uv_model.specs.declared.place.Place.TheVariants.{Running}
-use Rattle.uv_model.specs.State.{State, named, with_named}
+use Rattle.uv_workers.proofs.Names.{◌≡◌, List, false, Option, Some, refl, ap, ap₂, sym, ◌∙◌, Event, Take, Finish, Tick, Id, Var, Seen, Program, State, named, with_named, Next, Moves, Refuses, is_of_worker, map-id, Callback, Named, count_of, counted, Run, Running, Comes}
 use Rattle.uv_model.specs.Next as steps
-use Rattle.uv_model.specs.Next.{Next, Moves, Refuses, next}
+use Rattle.uv_model.specs.Next.{next}
 use Rattle.uv_names.proofs.Changed.{as_is, changed, changed_run, Hides, named_changed, with_named_changed}
 use Rattle.uv_names.proofs.Rebound.{same_place}
 use Rattle.uv_names.proofs.Walk.{SeesAlike, by_named, event_alike}
-use Rattle.uv_alike.specs.Changed.{Comes}
-use Rattle.uv_workers.specs.Workers.{is_of_worker}
 
 -- the state whose workers run these
 abbrev pub put : List (Option Id) → State → State

@@ -1,3 +1,4 @@
+mod Names
 pub mod Frame
 pub mod Runs
 pub mod Steps

@@ -1,24 +1,10 @@
 -- Steps of states that are the same except for which worker runs which request.
-use Rattle.std.proofs.Common.{◌≡◌, ℕ, List, false, drop, Option, Some, None, Result, Ok, Err, refl, ap, sym, ◌∙◌, slice_get, slice_set}
-use Rattle.uv_ids.specs.declared.id.Id.{Id}
-use Rattle.uv_ids.specs.declared.id.Var.{Var}
-use Rattle.uv_ids.specs.declared.event.Event.{Event}
-use Rattle.uv_ids.specs.declared.event.Event.TheVariants.{Take, Finish}
-use Rattle.uv_ids.specs.declared.fault.Why.{Why}
-use Rattle.uv_ids.specs.declared.fault.Why.TheVariants.{IdleWorker}
-use Rattle.uv_ids.specs.declared.seen.Seen.{Seen}
+use Rattle.uv_workers.proofs.Names.{◌≡◌, ℕ, List, false, drop, Option, Some, None, Result, Ok, Err, refl, ap, sym, ◌∙◌, slice_get, slice_set, Id, Var, Event, Take, Finish, Seen, Program, State, request, with_id, Next, Moves, Refuses, is_of_worker, next_by, ordered, orderly, orderly_next, Why, IdleWorker, text_of, Finished, Request, found_or}
 use Rattle.uv_ids.specs.declared.seen.Seen.TheVariants as seen
-use Rattle.uv_script.specs.Program.{Program}
 use Rattle.uv_work.specs.Digests.{digest_of}
-use Rattle.uv_work.specs.Tasks.{text_of}
-use Rattle.uv_work.specs.declared.outcome.Outcome.TheVariants.{Finished}
-use Rattle.uv_work.specs.declared.request.Request.{Request}
-use Rattle.uv_model.specs.Found.{found_or}
 use Rattle.uv_model.specs.Ops.{ended}
-use Rattle.uv_model.specs.State.{State, request, with_id}
 use Rattle.uv_model.specs.Next as steps
-use Rattle.uv_model.specs.Next.{Next, Moves, Refuses, next}
-use Rattle.uv_workers.specs.Workers.{is_of_worker, next_by, ordered, orderly, orderly_next}
+use Rattle.uv_model.specs.Next.{next}
 use Rattle.uv_workers.proofs.Frame.{put, put_next, next_same}
 use Rattle.uv_workers.proofs.Runs.{ordered_again, set_alike}
 

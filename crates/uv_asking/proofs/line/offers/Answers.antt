@@ -1,4 +1,4 @@
-use Rattle.std.proofs.Common.{refl}
+use Rattle.uv_asking.proofs.Names.{refl}
 use Rattle.uv_asking.proofs.line.offers.Goals as goal
 
 pub returns : goal.returns

@@ -1,6 +1,4 @@
-use Rattle.std.proofs.Common.{sym}
-use Rattle.uv_script.specs.Lines.{fields_of}
-use Rattle.uv_asking.specs.Grammar.{offers, bounds, questions, calls}
+use Rattle.uv_asking.proofs.Names.{sym, fields_of, offers, bounds, questions, calls}
 use Rattle.uv_asking.proofs.Agreement.{grouped}
 use Rattle.uv_asking.proofs.line.part.Goals as goal
 

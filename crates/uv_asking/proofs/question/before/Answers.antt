@@ -1,5 +1,4 @@
-use Rattle.std.proofs.Common.{◌∙◌}
-use Rattle.uv_asking.specs.declared.asking.Question.TheVariants.{Before}
+use Rattle.uv_asking.proofs.Names.{◌∙◌, Before}
 use Rattle.uv_asking.proofs.question.before.Goals as goal
 
 pub returns-in_err-first : goal.returns-in_err-first

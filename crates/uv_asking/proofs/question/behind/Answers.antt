@@ -1,5 +1,4 @@
-use Rattle.std.proofs.Common.{◌∙◌}
-use Rattle.uv_asking.specs.declared.asking.Question.TheVariants.{Behind}
+use Rattle.uv_asking.proofs.Names.{◌∙◌, Behind}
 use Rattle.uv_asking.proofs.question.behind.Goals as goal
 
 pub returns-in_err-first : goal.returns-in_err-first

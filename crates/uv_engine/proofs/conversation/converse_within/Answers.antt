@@ -1,7 +1,7 @@
 use Rattle.uv_engine.proofs.Names.{Ok, arith, err_from_is_err_and, left}
 use Rattle.uv_engine.proofs.Starting.{no_start, no_machine, talked, begun_session, reads_whole}
 use Rattle.uv_engine.proofs.Faults.{talked_within, talk_converses, talk_counts}
-use Rattle.uv_engine.proofs.Near.{whole_stops, talk_stops}
+use Rattle.uv_engine.proofs.Near.{talk_stops}
 use Rattle.uv_engine.proofs.conversation.converse_within.Goals as goal
 
 pub returns-in_err-script-clause-text : goal.returns-in_err-script-clause-text
@@ -51,10 +51,7 @@ returns-clause-reader g c =
     c.in_ok-script.ensures.reader c.talk.ensures.reader
 
 pub returns-in_err-script-clause-stops : goal.returns-in_err-script-clause-stops
-returns-in_err-script-clause-stops g c =
-    let p = err_from_is_err_and c.from_residual.result c.from_residual.ensures.1 in
-    rw (p.1, p.2) (λ reads. whole_stops c.in_err-script.field-0.0 c.new-input.result _ _ c.new-input.ensures.empty
-    (c.in_err-script.ensures.stops reads))
+returns-in_err-script-clause-stops g c = grind arith
 
 pub returns-clause-stops : goal.returns-clause-stops
 returns-clause-stops g c = talk_stops g.R.Source.Tells c.talk.result _ _ c.talk.ensures.err

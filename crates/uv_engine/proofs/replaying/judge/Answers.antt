@@ -35,8 +35,5 @@ returns-clause-reader g c =
     (g.R.Source.given c.judge_rest.new.reader) (g.R.Source.failures c.args.reader.now) (g.R.Source.failures c.read_script.new.reader)
     (g.R.Source.failures c.judge_rest.new.reader)
     (λ reads. omega (arith, c.new.ensures.budget, c.in_ok-version.ensures.budget reads, c.in_ok-script.ensures.budget reads))
-    (λ few.
-    let first = c.in_ok-version.ensures.given (omega (arith, c.new.ensures.budget, few)) in
-    let second = c.in_ok-script.ensures.given (omega (arith, c.new.ensures.budget, few, first)) in
-    omega (arith, c.new.ensures.budget, first, second))
+    (λ few. grind arith)
     (c.in_ok-script.ensures.reader ∙ c.in_ok-version.ensures.reader) c.judge_rest.ensures.reader

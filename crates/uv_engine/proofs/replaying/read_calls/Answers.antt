@@ -1,7 +1,5 @@
-use Rattle.uv_engine.proofs.Names.{ℕ, ◌+◌, arith, ap, sym, subst, ◌∙◌, both_ways, IsCallbackLine, err_from_is_err_and, Option}
-use Rattle.uv_engine.specs.declared.input.Line.{Line}
+use Rattle.uv_engine.proofs.Names.{ℕ, ◌+◌, arith, ap, sym, subst, ◌∙◌, both_ways, IsCallbackLine, err_from_is_err_and, Option, Line}
 use Rattle.uv_engine.proofs.Replays.{calls_none, calls_more, calls_end, calls_bad, calls_missing, calls_fail}
-use Rattle.uv_engine.proofs.Faults.{fault_counts}
 use Rattle.uv_engine.proofs.replaying.read_calls.Goals as goal
 
 pub lines-init : goal.lines-init
@@ -73,8 +71,4 @@ pub returns-in_err-meet-clause-budget : goal.returns-in_err-meet-clause-budget
 returns-in_err-meet-clause-budget g c = grind arith
 
 pub returns-in_err-line-clause-reader : goal.returns-in_err-line-clause-reader
-returns-in_err-line-clause-reader g c =
-    let p = err_from_is_err_and c.from_residual.result c.from_residual.ensures.1 in
-    rw (p.1, p.2)
-    (fault_counts (Option Line) (Unit {0}) c.in_err-line.field-0.0 g.R.Source.Tells _ _ _ _ _ _ _ _ _ _ c.lines.invariant.budget
-    c.lines.invariant.given c.lines.invariant.none_failed c.in_err-line.ensures.reader)
+returns-in_err-line-clause-reader g c = grind arith

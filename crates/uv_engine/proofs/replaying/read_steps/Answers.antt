@@ -1,32 +1,21 @@
-use Rattle.uv_engine.proofs.Names.{ℕ, ◌+◌, arith, ap, sym, ◌∙◌, accepts-nil, err_from_is_err_and, Option}
-use Rattle.uv_engine.specs.declared.input.Line.{Line}
-use Rattle.uv_engine.proofs.Replays.{steps_none, steps_more, steps_end, steps_bad, steps_missing, steps_fail}
-use Rattle.uv_engine.proofs.Faults.{fault_counts}
+use Rattle.uv_engine.proofs.Names.{ℕ, ◌+◌, arith, ap, sym, ◌∙◌, accepts-nil, err_from_is_err_and, Option, Line}
+use Rattle.uv_engine.proofs.Replays.{steps_none, steps_more, steps_end, steps_bad, steps_fail}
 use Rattle.uv_engine.proofs.replaying.read_steps.Goals as goal
 
 pub lines-init : goal.lines-init
 lines-init g c = grind (arith, steps_none, accepts-nil)
 
 pub returns-then-is_calls-clause-steps : goal.returns-then-is_calls-clause-steps
-returns-then-is_calls-clause-steps g c = λ reads.
-    let taken = rw c.in-Some.is at (c.in_ok-line.ensures.line reads) in
-    let count = rw c.in-Some.is at c.in_ok-line.ensures.taken in
-    steps_end _ c.in-Some.line.text.items _ c.in-Some.line.fed (c.lines.invariant.reads reads) count taken
-    (sym c.as_slice.ensures.value ∙ c.is_calls.ensures.is c.if-is_calls.true)
+returns-then-is_calls-clause-steps g c = grind (arith, steps_end)
 
 pub returns-in_default-clause-steps : goal.returns-in_default-clause-steps
-returns-in_default-clause-steps g c = λ reads.
-    let none_left = rw c.in_default.is at (c.in_ok-line.ensures.line reads) in
-    let same = rw c.in_default.is at c.in_ok-line.ensures.none in
-    rw c.missing.ensures (steps_missing _ (c.lines.invariant.reads reads) (ap (λ (n : ℕ). n + 1) same) none_left)
+returns-in_default-clause-steps g c = grind arith
 
 pub returns-in_default-read_step-clause-steps : goal.returns-in_default-read_step-clause-steps
 returns-in_default-read_step-clause-steps g c = grind (arith, steps_bad)
 
 pub returns-in_err-line-clause-steps : goal.returns-in_err-line-clause-steps
-returns-in_err-line-clause-steps g c = λ reads.
-    let p = err_from_is_err_and c.from_residual.result c.from_residual.ensures.1 in
-    rw (p.1, p.2) (steps_fail _ c.in_err-line.field-0.0 (c.lines.invariant.reads reads) c.in_err-line.ensures.err (c.in_err-line.ensures.long reads))
+returns-in_err-line-clause-steps g c = grind (arith, err_from_is_err_and, steps_fail)
 
 pub lines-preserved : goal.lines-preserved
 lines-preserved g c = rw c.reuse.ensures (record {
@@ -65,8 +54,4 @@ pub returns-in_err-take-clause-budget : goal.returns-in_err-take-clause-budget
 returns-in_err-take-clause-budget g c = grind arith
 
 pub returns-in_err-line-clause-reader : goal.returns-in_err-line-clause-reader
-returns-in_err-line-clause-reader g c =
-    let p = err_from_is_err_and c.from_residual.result c.from_residual.ensures.1 in
-    rw (p.1, p.2)
-    (fault_counts (Option Line) (Unit {0}) c.in_err-line.field-0.0 g.R.Source.Tells _ _ _ _ _ _ _ _ _ _ c.lines.invariant.budget
-    c.lines.invariant.given c.lines.invariant.none_failed c.in_err-line.ensures.reader)
+returns-in_err-line-clause-reader g c = grind arith

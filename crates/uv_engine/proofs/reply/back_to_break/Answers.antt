@@ -1,4 +1,4 @@
-use Rattle.std.proofs.Common.{rules}
+use Rattle.uv_engine.proofs.Names.{rules}
 use Rattle.uv_engine.proofs.Replies.{break_after-found}
 use Rattle.uv_engine.proofs.reply.back_to_break.Goals as goal
 

@@ -1,7 +1,4 @@
-use Rattle.std.proofs.lemmas.Result.{err_from_is_err_and}
-use Rattle.uv_script.proofs.Writing.{begins_itself, begins_more, cut_before}
-use Rattle.uv_text.specs.Trace.{appended_text}
-use Rattle.std.proofs.Common.{sym, ◌∙◌}
+use Rattle.uv_engine.proofs.Names.{err_from_is_err_and, begins_itself, begins_more, cut_before, appended_text, sym, ◌∙◌}
 use Rattle.uv_engine.proofs.Replies.{took, told_stop, told_on}
 use Rattle.uv_engine.proofs.reply.tell.Goals as goal
 

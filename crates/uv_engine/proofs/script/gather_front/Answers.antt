@@ -1,6 +1,6 @@
-use Rattle.std.proofs.Common.{arith, refl, ◌∙◌}
+use Rattle.uv_engine.proofs.Names.{arith, refl, ◌∙◌}
 use Rattle.uv_engine.proofs.LongLines.{front_long, whole_more, whole_none}
-use Rattle.uv_engine.proofs.Near.{near_start, near_more, near_end, near_here, near_line, near_long}
+use Rattle.uv_engine.proofs.Near.{near_start, near_more, near_here, near_line, near_long}
 use Rattle.uv_engine.proofs.Starting.{can_start, can_go_on, front_begun, front_missing}
 use Rattle.uv_engine.proofs.script.gather_front.Goals as goal
 
@@ -27,9 +27,7 @@ returns-in-Long-clause-front g c = λ reads.
     front_long _ (c.lines.invariant.text reads) (c.lines.invariant.whole reads) taken
 
 pub returns-in-End-clause-near : goal.returns-in-End-clause-near
-returns-in-End-clause-near g c = λ reads.
-    let none_left = rw c.in-End.is at (c.in_ok-line.ensures.line reads) in
-    c.lines.invariant.near reads _ (near_end _ _ none_left)
+returns-in-End-clause-near g c = grind arith
 
 pub returns-in-Long-clause-near : goal.returns-in-Long-clause-near
 returns-in-Long-clause-near g c = λ reads.

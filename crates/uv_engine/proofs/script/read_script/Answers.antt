@@ -1,5 +1,5 @@
 use Rattle.uv_engine.proofs.LongLines.{front_read, front_fault}
-use Rattle.std.proofs.lemmas.Result.{err_from_is_err_and}
+use Rattle.uv_engine.proofs.Names.{err_from_is_err_and}
 use Rattle.uv_engine.proofs.Faults.{on_answer, no_read}
 use Rattle.uv_engine.proofs.Near.{stops_near, none_stops}
 use Rattle.uv_engine.proofs.script.read_script.Goals as goal

@@ -1,4 +1,4 @@
-use Rattle.std.proofs.Common.{◌≡◌, ◌≤◌, ◌-◌, ◌++◌, length, take}
+use Rattle.uv_engine.proofs.Names.{◌≡◌, ◌≤◌, ◌-◌, ◌++◌, length, take}
 use Rattle.uv_engine.proofs.sink.write_text.Given as goal
 
 abbrev pub invariant-loop-at : goal.invariant-loop-at

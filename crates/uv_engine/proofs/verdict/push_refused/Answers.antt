@@ -1,6 +1,4 @@
-use Rattle.std.proofs.Common.{◌≡◌, ◌++◌, codes, arith, append_assoc}
-use Rattle.std.proofs.lemmas.Result.{err_from_is_err_and}
-use Rattle.uv_script.proofs.Writing.{begins_itself, begins_less, begins_more, cut_whole}
+use Rattle.uv_engine.proofs.Names.{◌≡◌, ◌++◌, codes, arith, append_assoc, err_from_is_err_and, begins_itself, begins_less, begins_more, cut_whole}
 use Rattle.std.specs.Fmt.{decimal}
 use Rattle.uv_engine.proofs.verdict.push_refused.Goals as goal
 

@@ -1,5 +1,4 @@
-use Rattle.std.proofs.Common.{◌≡◌, ◌++◌}
-use Rattle.uv_find.specs.Orders.{finishes, first_offers}
+use Rattle.uv_find.proofs.Names.{◌≡◌, ◌++◌, finishes, first_offers}
 use Rattle.uv_find.proofs.beginning.every_offer.Given as goal
 
 abbrev pub invariant-workers : goal.invariant-workers

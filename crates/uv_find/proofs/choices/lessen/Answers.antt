@@ -1,4 +1,4 @@
-use Rattle.std.proofs.Common.{◌∙◌}
+use Rattle.uv_find.proofs.Names.{◌∙◌}
 use Rattle.uv_find.proofs.Undone.{set_twice, set_itself}
 use Rattle.uv_find.proofs.choices.lessen.Goals as goal
 

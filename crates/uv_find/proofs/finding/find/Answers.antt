@@ -1,4 +1,4 @@
-use Rattle.std.proofs.Common.{sym, ◌∙◌}
+use Rattle.uv_find.proofs.Names.{sym, ◌∙◌}
 use Rattle.uv_find.proofs.Results.{found_here, found_none}
 use Rattle.uv_find.proofs.finding.find.Goals as goal
 

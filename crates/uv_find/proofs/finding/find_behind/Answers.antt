@@ -1,5 +1,4 @@
-use Rattle.std.proofs.Common.{◌≡◌, ◌∷◌, ◌∙◌, length, drop, subst, arith}
-use Rattle.uv_search.proofs.Retracing.{some_left}
+use Rattle.uv_find.proofs.Names.{◌≡◌, ◌∷◌, ◌∙◌, length, drop, subst, arith, some_left}
 use Rattle.uv_find.proofs.Results.{answers_by, found_way, found_never, found_more, found_deep, found_no_memory, same_back}
 use Rattle.uv_find.proofs.finding.find_behind.Goals as goal
 

@@ -1,6 +1,4 @@
-use Rattle.std.proofs.Common.{◌≡◌, drop}
-use Rattle.std.specs.Prelude.{max}
-use Rattle.uv_names.specs.Counts.{lines_end}
+use Rattle.uv_find.proofs.Names.{◌≡◌, drop, max, lines_end}
 use Rattle.uv_find.proofs.forgetting.lines_end.Given as goal
 
 abbrev pub invariant-lines : goal.invariant-lines

@@ -1,6 +1,4 @@
-use Rattle.std.proofs.Common.{◌≡◌, ◌&&◌, Bool, true, false, refl, ap, sym, ◌∙◌}
-use Rattle.uv_asking.specs.Asked.{asked_in}
-use Rattle.uv_find.specs.Forgetting.{asks_no_more}
+use Rattle.uv_find.proofs.Names.{◌≡◌, ◌&&◌, Bool, true, false, refl, ap, sym, ◌∙◌, asked_in, asks_no_more}
 use Rattle.uv_find.proofs.Declaring.{whole_declares}
 use Rattle.uv_find.proofs.forgetting.may_forget.Goals as goal
 

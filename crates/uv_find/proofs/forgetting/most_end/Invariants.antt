@@ -1,6 +1,4 @@
-use Rattle.std.proofs.Common.{◌≡◌, drop}
-use Rattle.std.specs.Prelude.{max}
-use Rattle.uv_find.specs.Forgetting.{most_end}
+use Rattle.uv_find.proofs.Names.{◌≡◌, drop, max, most_end}
 use Rattle.uv_find.proofs.forgetting.most_end.Given as goal
 
 abbrev pub invariant-bounds : goal.invariant-bounds

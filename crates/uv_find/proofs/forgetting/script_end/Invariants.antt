@@ -1,6 +1,4 @@
-use Rattle.std.proofs.Common.{◌≡◌, drop}
-use Rattle.std.specs.Prelude.{max}
-use Rattle.uv_names.specs.Counts.{all_end}
+use Rattle.uv_find.proofs.Names.{◌≡◌, drop, max, all_end}
 use Rattle.uv_find.proofs.forgetting.script_end.Given as goal
 
 abbrev pub invariant-names : goal.invariant-names

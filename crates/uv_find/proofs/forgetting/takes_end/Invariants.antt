@@ -1,6 +1,4 @@
-use Rattle.std.proofs.Common.{◌≡◌, drop}
-use Rattle.std.specs.Prelude.{max}
-use Rattle.uv_find.specs.Forgetting.{takes_end}
+use Rattle.uv_find.proofs.Names.{◌≡◌, drop, max, takes_end}
 use Rattle.uv_find.proofs.forgetting.takes_end.Given as goal
 
 abbrev pub invariant-times : goal.invariant-times

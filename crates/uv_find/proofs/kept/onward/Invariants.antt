@@ -1,5 +1,4 @@
-use Rattle.std.proofs.Common.{◌≡◌, ◌+◌, drop}
-use Rattle.uv_find.specs.Kept.{onward}
+use Rattle.uv_find.proofs.Names.{◌≡◌, ◌+◌, drop, onward}
 use Rattle.uv_find.proofs.kept.onward.Given as goal
 
 abbrev pub invariant-events : goal.invariant-events

@@ -1,5 +1,4 @@
-use Rattle.std.proofs.Common.{◌≡◌, drop}
-use Rattle.uv_find.specs.Kept.{said_time}
+use Rattle.uv_find.proofs.Names.{◌≡◌, drop, said_time}
 use Rattle.uv_find.proofs.kept.said_time.Given as goal
 
 abbrev pub invariant-times : goal.invariant-times

@@ -1,5 +1,4 @@
-use Rattle.std.proofs.Common.{◌≡◌, ◌∷◌, length, drop, subst, arith}
-use Rattle.uv_search.proofs.Retracing.{some_left}
+use Rattle.uv_find.proofs.Names.{◌≡◌, ◌∷◌, length, drop, subst, arith, some_left}
 use Rattle.uv_find.proofs.Results.{found_never, same_back}
 use Rattle.uv_find.proofs.latest.look.Goals as goal
 

@@ -1,4 +1,4 @@
-use Rattle.std.proofs.Common.{◌∙◌, refl, arith}
+use Rattle.uv_find.proofs.Names.{◌∙◌, refl, arith}
 use Rattle.uv_find.proofs.latest.rise.Goals as goal
 
 pub look-requires : goal.look-requires

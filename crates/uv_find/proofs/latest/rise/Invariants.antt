@@ -1,6 +1,4 @@
-use Rattle.std.proofs.Common.{◌≡◌, ◌≤◌, ℕ, true}
-use Rattle.uv_find.specs.Holding.{asks_late}
-use Rattle.uv_find.specs.Orders.{asked_late}
+use Rattle.uv_find.proofs.Names.{◌≡◌, ◌≤◌, ℕ, true, asks_late, asked_late}
 use Rattle.uv_find.proofs.latest.rise.Given as goal
 
 abbrev pub invariant-rounds : goal.invariant-rounds

@@ -1,6 +1,4 @@
-use Rattle.std.proofs.Common.{◌≡◌}
-use Rattle.uv_asking.specs.Asked.{asked_in}
-use Rattle.uv_find.specs.Mates.{mates_of}
+use Rattle.uv_find.proofs.Names.{◌≡◌, asked_in, mates_of}
 use Rattle.uv_find.proofs.mates.mates_of.Given as goal
 
 abbrev pub invariant-names : goal.invariant-names

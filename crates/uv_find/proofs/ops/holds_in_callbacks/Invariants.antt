@@ -1,7 +1,4 @@
-use Rattle.std.proofs.Common.{◌≡◌, drop}
-use Rattle.std.specs.List.{list_all}
-use Rattle.uv_find.specs.Holding.{test_of}
-use Rattle.uv_find.specs.Ops.{of_callbacks}
+use Rattle.uv_find.proofs.Names.{◌≡◌, drop, list_all, test_of, of_callbacks}
 use Rattle.uv_find.proofs.ops.holds_in_callbacks.Given as goal
 
 abbrev pub invariant-names : goal.invariant-names

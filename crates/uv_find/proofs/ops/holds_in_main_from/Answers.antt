@@ -1,7 +1,4 @@
-use Rattle.std.proofs.Common.{sym, ◌∙◌, drop}
-use Rattle.std.specs.List.{list_all}
-use Rattle.uv_find.specs.Holding.{test_of}
-use Rattle.uv_find.specs.Ops.{of_main}
+use Rattle.uv_find.proofs.Names.{sym, ◌∙◌, drop, list_all, test_of, of_main}
 use Rattle.uv_find.proofs.Scans.{all_goes}
 use Rattle.uv_find.proofs.ops.holds_in_main_from.Goals as goal
 

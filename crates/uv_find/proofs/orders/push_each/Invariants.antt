@@ -1,5 +1,4 @@
-use Rattle.std.proofs.Common.{◌≡◌, ◌++◌, drop}
-use Rattle.uv_find.specs.Spots.{each_code}
+use Rattle.uv_find.proofs.Names.{◌≡◌, ◌++◌, drop, each_code}
 use Rattle.uv_find.proofs.orders.push_each.Given as goal
 
 abbrev pub invariant-offers : goal.invariant-offers

@@ -1,7 +1,5 @@
-use Rattle.std.proofs.Common.{◌<◌, ◌≤◌, ◌∙◌, Option, is_none, is_some, not, length, sym, ap, arith}
-use Rattle.uv_ids.specs.declared.id.Id.{Id}
+use Rattle.uv_find.proofs.Names.{◌<◌, ◌≤◌, ◌∙◌, Option, is_none, is_some, not, length, sym, ap, arith, Id, worker_count}
 use Rattle.uv_model.specs.After.{after}
-use Rattle.uv_script.specs.Program.{worker_count}
 use Rattle.uv_find.proofs.Ranking.{found_here, found_later, found_nowhere}
 use Rattle.uv_find.proofs.Runners.{after_long}
 use Rattle.uv_find.proofs.ranks.idle_worker.Goals as goal

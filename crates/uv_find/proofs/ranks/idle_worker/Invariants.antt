@@ -1,6 +1,4 @@
-use Rattle.std.proofs.Common.{◌≡◌, Option, drop, is_none}
-use Rattle.std.specs.List.{position_from}
-use Rattle.uv_ids.specs.declared.id.Id.{Id}
+use Rattle.uv_find.proofs.Names.{◌≡◌, Option, drop, is_none, position_from, Id}
 use Rattle.uv_model.specs.After.{after}
 use Rattle.uv_find.proofs.ranks.idle_worker.Given as goal
 

@@ -1,8 +1,5 @@
-use Rattle.std.proofs.Common.{◌<◌, ◌≤◌, ◌∙◌, ◌+◌, length, take, take_all, ap, ap₂, arith}
-use Rattle.std.specs.Prelude.{option_map}
-use Rattle.std.proofs.lemmas.List.{length-map, length-take-le}
+use Rattle.uv_find.proofs.Names.{◌<◌, ◌≤◌, ◌∙◌, ◌+◌, length, take, take_all, ap, ap₂, arith, option_map, length-map, length-take-le, key_at, keys_run, count_before, rank_in}
 use Rattle.uv_model.specs.After.{after}
-use Rattle.uv_find.specs.Ranks.{key_at, keys_run, count_before, rank_in}
 use Rattle.uv_find.proofs.Ranking.{rank_next, rank_most, one_most}
 use Rattle.uv_find.proofs.ranks.rank_in.Goals as goal
 

@@ -1,6 +1,5 @@
-use Rattle.std.proofs.Common.{◌≡◌, take}
+use Rattle.uv_find.proofs.Names.{◌≡◌, take, keys_run, rank_in}
 use Rattle.uv_model.specs.After.{after}
-use Rattle.uv_find.specs.Ranks.{keys_run, rank_in}
 use Rattle.uv_find.proofs.ranks.rank_in.Given as goal
 
 -- of those before this one

@@ -1,7 +1,5 @@
-use Rattle.std.proofs.Common.{◌<◌, ◌≤◌, ◌∙◌, length, sym, ap, arith}
-use Rattle.uv_find.specs.Ranks.{is_of_rank}
+use Rattle.uv_find.proofs.Names.{◌<◌, ◌≤◌, ◌∙◌, length, sym, ap, arith, is_of_rank, worker_count}
 use Rattle.uv_model.specs.After.{after}
-use Rattle.uv_script.specs.Program.{worker_count}
 use Rattle.uv_find.proofs.Ranking.{found_here, found_later, found_nowhere}
 use Rattle.uv_find.proofs.Runners.{after_long}
 use Rattle.uv_find.proofs.ranks.runner.Goals as goal

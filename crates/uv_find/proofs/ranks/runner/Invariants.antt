@@ -1,6 +1,4 @@
-use Rattle.std.proofs.Common.{◌≡◌, drop}
-use Rattle.std.specs.List.{position_from}
-use Rattle.uv_find.specs.Ranks.{is_of_rank}
+use Rattle.uv_find.proofs.Names.{◌≡◌, drop, position_from, is_of_rank}
 use Rattle.uv_model.specs.After.{after}
 use Rattle.uv_find.proofs.ranks.runner.Given as goal
 

@@ -1,6 +1,4 @@
-use Rattle.std.proofs.Common.{◌≡◌, ◌++◌, drop}
-use Rattle.uv_find.specs.Orders.{held_back}
-use Rattle.uv_find.specs.Steps.{Stands, state_in}
+use Rattle.uv_find.proofs.Names.{◌≡◌, ◌++◌, drop, held_back, Stands, state_in}
 use Rattle.uv_find.proofs.recorded.hold_back.Given as goal
 
 abbrev pub invariant-sources : goal.invariant-sources

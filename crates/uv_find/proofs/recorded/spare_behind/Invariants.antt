@@ -1,6 +1,4 @@
-use Rattle.std.proofs.Common.{◌≡◌, Some, drop}
-use Rattle.uv_find.specs.Orders.{spare_behind}
-use Rattle.uv_find.specs.Steps.{Stands, state_in}
+use Rattle.uv_find.proofs.Names.{◌≡◌, Some, drop, spare_behind, Stands, state_in}
 use Rattle.uv_find.proofs.recorded.spare_behind.Given as goal
 
 abbrev pub invariant-sources : goal.invariant-sources

@@ -1,5 +1,4 @@
-use Rattle.std.proofs.Common.{◌≡◌}
-use Rattle.uv_find.specs.Same.{all_turned}
+use Rattle.uv_find.proofs.Names.{◌≡◌, all_turned}
 use Rattle.uv_find.proofs.same.all_turned.Given as goal
 
 abbrev pub invariant-names : goal.invariant-names

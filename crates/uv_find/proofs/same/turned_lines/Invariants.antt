@@ -1,5 +1,4 @@
-use Rattle.std.proofs.Common.{◌≡◌, drop}
-use Rattle.uv_find.specs.Same.{turned_lines}
+use Rattle.uv_find.proofs.Names.{◌≡◌, drop, turned_lines}
 use Rattle.uv_find.proofs.same.turned_lines.Given as goal
 
 abbrev pub invariant-lines : goal.invariant-lines

@@ -1,5 +1,4 @@
-use Rattle.std.proofs.Common.{◌≡◌}
-use Rattle.uv_find.specs.Orders.{is_new}
+use Rattle.uv_find.proofs.Names.{◌≡◌, is_new}
 use Rattle.uv_find.proofs.sources.is_new.Given as goal
 
 abbrev pub invariant-events : goal.invariant-events

@@ -1,5 +1,4 @@
-use Rattle.std.proofs.Common.{◌≡◌, ◌+◌, drop}
-use Rattle.uv_find.specs.Orders.{next_of}
+use Rattle.uv_find.proofs.Names.{◌≡◌, ◌+◌, drop, next_of}
 use Rattle.uv_find.proofs.sources.next_of.Given as goal
 
 abbrev pub invariant-events : goal.invariant-events

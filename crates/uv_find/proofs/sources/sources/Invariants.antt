@@ -1,5 +1,4 @@
-use Rattle.std.proofs.Common.{◌≡◌}
-use Rattle.uv_find.specs.Orders.{sources}
+use Rattle.uv_find.proofs.Names.{◌≡◌, sources}
 use Rattle.uv_find.proofs.sources.sources.Given as goal
 
 abbrev pub invariant-events : goal.invariant-events

@@ -1,7 +1,4 @@
-use Rattle.std.proofs.Common.{sym, subst, ◌∙◌}
-use Rattle.uv_records.specs.declared.lists.ListName.{ListName}
-use Rattle.uv_arena.specs.Calls.{IsFirst, IsRotated}
-use Rattle.uv_handle.specs.Counted.{counted}
+use Rattle.uv_handle.proofs.Names.{sym, subst, ◌∙◌, ListName, IsFirst, IsRotated, counted}
 use Rattle.uv_handle.proofs.Walked.{lists_apart, moved_done}
 use Rattle.uv_handle.proofs.walk.move_on.Goals as goal
 

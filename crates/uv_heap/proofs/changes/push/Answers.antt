@@ -1,5 +1,5 @@
-use Rattle.std.proofs.Common.{◌≡◌, length, ◌∙◌, ap, arith}
-use Rattle.uv_heap.specs.Moves.{Moved, moved_up, pushed}
+use Rattle.uv_heap.proofs.Names.{◌≡◌, length, ◌∙◌, ap, arith, Moved}
+use Rattle.uv_heap.specs.Moves.{moved_up, pushed}
 use Rattle.uv_heap.proofs.MoveLemmas.{moved_up_above}
 use Rattle.uv_heap.proofs.UndoLemmas.{pushed_is}
 use Rattle.uv_heap.proofs.changes.push.Goals as goal

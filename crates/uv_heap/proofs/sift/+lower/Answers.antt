@@ -1,4 +1,4 @@
-use Rattle.std.proofs.Common.{sym, arith}
+use Rattle.uv_heap.proofs.Names.{sym, arith}
 use Rattle.uv_heap.proofs.MoveLemmas.{lowered_more, lowered_end, length-lowered}
 use Rattle.uv_heap.proofs.sift.+lower.Goals as goal
 

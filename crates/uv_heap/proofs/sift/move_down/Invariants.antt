@@ -1,5 +1,5 @@
 -- The rest of the way down is the same as the whole.
-use Rattle.std.proofs.Common.{◌≡◌, ◌<◌, ◌-◌, length}
+use Rattle.uv_heap.proofs.Names.{◌≡◌, ◌<◌, ◌-◌, length}
 use Rattle.uv_heap.specs.Moves.{moved_down}
 use Rattle.uv_heap.proofs.sift.move_down.Given as goal
 

@@ -1,5 +1,5 @@
 -- The rest of the way up is the same as the whole.
-use Rattle.std.proofs.Common.{◌≡◌, ◌<◌, length}
+use Rattle.uv_heap.proofs.Names.{◌≡◌, ◌<◌, length}
 use Rattle.uv_heap.specs.Moves.{moved_up}
 use Rattle.uv_heap.proofs.sift.move_up.Given as goal
 

@@ -1,5 +1,5 @@
 -- The rest of the way up is the same as the whole.
-use Rattle.std.proofs.Common.{◌≡◌, ◌<◌, length}
+use Rattle.uv_heap.proofs.Names.{◌≡◌, ◌<◌, length}
 use Rattle.uv_heap.specs.Undo.{raised}
 use Rattle.uv_heap.proofs.sift.raise.Given as goal
 

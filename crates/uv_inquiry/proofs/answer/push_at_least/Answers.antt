@@ -1,8 +1,5 @@
-use Rattle.std.proofs.Common.{◌≡◌, ◌++◌, length, refl}
-use Rattle.std.proofs.lemmas.Result.{err_from_is_err_and}
-use Rattle.uv_script.proofs.Writing.{begins_itself, begins_more, cut_before, whole_behind, last_behind}
-use Rattle.uv_inquiry.specs.Texts.{session_text, some_text, more_text, at_least_text}
-use Rattle.uv_text.proofs.Cuts.{cut}
+use Rattle.uv_inquiry.proofs.Names.{◌≡◌, ◌++◌, length, refl, err_from_is_err_and, begins_itself, begins_more, cut_before, whole_behind, last_behind, some_text, cut}
+use Rattle.uv_inquiry.specs.Texts.{session_text, more_text, at_least_text}
 use Rattle.uv_inquiry.proofs.answer.push_at_least.Goals as goal
 
 pub returns-in_err-push_some : goal.returns-in_err-push_some

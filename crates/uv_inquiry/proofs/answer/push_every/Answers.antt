@@ -1,8 +1,5 @@
-use Rattle.std.proofs.Common.{◌++◌, append_assoc, codes, arith}
-use Rattle.std.proofs.lemmas.Result.{err_from_is_err_and}
-use Rattle.uv_script.proofs.Writing.{begins_itself, begins_more}
-use Rattle.uv_inquiry.specs.Texts.{steps_text, every_text}
-use Rattle.uv_text.proofs.Cuts.{cut}
+use Rattle.uv_inquiry.proofs.Names.{◌++◌, append_assoc, codes, arith, err_from_is_err_and, begins_itself, begins_more, steps_text, cut}
+use Rattle.uv_inquiry.specs.Texts.{every_text}
 use Rattle.uv_inquiry.proofs.answer.push_every.Goals as goal
 
 pub returns-in_err-push_states : goal.returns-in_err-push_states

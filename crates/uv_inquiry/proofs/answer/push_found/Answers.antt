@@ -1,8 +1,5 @@
-use Rattle.std.proofs.Common.{◌≡◌, ◌++◌, rules, append_assoc, codes, arith, length}
-use Rattle.std.proofs.lemmas.Result.{err_from_is_err_and}
-use Rattle.uv_script.proofs.Writing.{begins_itself, begins_more, writing}
-use Rattle.uv_inquiry.specs.Texts.{steps_text, states_text, found_text}
-use Rattle.uv_text.proofs.Cuts.{cut}
+use Rattle.uv_inquiry.proofs.Names.{◌≡◌, ◌++◌, rules, append_assoc, codes, arith, length, err_from_is_err_and, begins_itself, begins_more, writing, steps_text, states_text, cut}
+use Rattle.uv_inquiry.specs.Texts.{found_text}
 use Rattle.uv_inquiry.proofs.answer.push_found.Goals as goal
 
 pub returns-in_err-push_states : goal.returns-in_err-push_states

@@ -1,7 +1,5 @@
-use Rattle.std.proofs.Common.{◌≡◌, ◌++◌, append_assoc, codes, arith, refl}
-use Rattle.std.specs.Fmt.{decimal}
-use Rattle.uv_script.proofs.Writing.{last_behind}
-use Rattle.uv_inquiry.specs.Texts.{bounds_text, late_text}
+use Rattle.uv_inquiry.proofs.Names.{◌≡◌, ◌++◌, append_assoc, codes, arith, refl, decimal, last_behind, bounds_text}
+use Rattle.uv_inquiry.specs.Texts.{late_text}
 use Rattle.uv_inquiry.proofs.answer.push_late.Goals as goal
 
 pub returns : goal.returns

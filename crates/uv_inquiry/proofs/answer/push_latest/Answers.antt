@@ -1,9 +1,5 @@
-use Rattle.std.proofs.Common.{◌≡◌, ◌++◌, length, refl}
-use Rattle.std.proofs.lemmas.Result.{err_from_is_err_and}
-use Rattle.uv_asking.specs.Asked.{asked_in}
-use Rattle.uv_script.proofs.Writing.{begins_itself, begins_more, cut_before, whole_behind, last_behind}
+use Rattle.uv_inquiry.proofs.Names.{◌≡◌, ◌++◌, length, refl, err_from_is_err_and, asked_in, begins_itself, begins_more, cut_before, whole_behind, last_behind, cut}
 use Rattle.uv_inquiry.specs.Texts.{session_text, late_text, every_text, latest_text}
-use Rattle.uv_text.proofs.Cuts.{cut}
 use Rattle.uv_inquiry.proofs.answer.push_latest.Goals as goal
 
 pub returns-in_err-push_late : goal.returns-in_err-push_late

@@ -1,6 +1,4 @@
-use Rattle.std.proofs.Common.{◌≡◌, ◌++◌, take}
-use Rattle.std.specs.List.{flat_map}
-use Rattle.uv_inquiry.specs.Texts.{more_bound}
+use Rattle.uv_inquiry.proofs.Names.{◌≡◌, ◌++◌, take, flat_map, more_bound}
 use Rattle.uv_inquiry.proofs.answer.push_more_bounds.Given as goal
 
 -- those before this one

@@ -1,6 +1,5 @@
-use Rattle.std.proofs.Common.{◌≡◌, ◌++◌, append_assoc, codes, arith, refl}
-use Rattle.uv_script.proofs.Writing.{last_behind}
-use Rattle.uv_inquiry.specs.Texts.{steps_text, unsettled_text, more_text}
+use Rattle.uv_inquiry.proofs.Names.{◌≡◌, ◌++◌, append_assoc, codes, arith, refl, last_behind, steps_text}
+use Rattle.uv_inquiry.specs.Texts.{unsettled_text, more_text}
 use Rattle.uv_inquiry.proofs.answer.push_more_states.Goals as goal
 
 pub returns : goal.returns

@@ -1,9 +1,5 @@
-use Rattle.std.proofs.Common.{◌≡◌, ◌++◌, rules, append_assoc, codes, arith}
-use Rattle.std.proofs.lemmas.Result.{err_from_is_err_and}
-use Rattle.uv_script.proofs.Writing.{begins_itself, begins_more, writing}
-use Rattle.uv_inquiry.specs.Texts.{clock_too, moved_text}
-use Rattle.std.specs.Fmt.{decimal}
-use Rattle.uv_text.proofs.Cuts.{cut}
+use Rattle.uv_inquiry.proofs.Names.{◌≡◌, ◌++◌, rules, append_assoc, codes, arith, err_from_is_err_and, begins_itself, begins_more, writing, clock_too, decimal, cut}
+use Rattle.uv_inquiry.specs.Texts.{moved_text}
 use Rattle.uv_inquiry.proofs.answer.push_moved.Goals as goal
 
 pub returns-in_err-push_clock_too : goal.returns-in_err-push_clock_too

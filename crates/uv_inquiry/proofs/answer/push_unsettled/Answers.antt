@@ -1,10 +1,6 @@
-use Rattle.std.specs.Prelude.{codes}
-use Rattle.uv_inquiry.specs.Texts.{states_text, unsettled_text}
+use Rattle.uv_inquiry.proofs.Names.{codes, states_text, ◌∙◌, ◌≡◌, ◌++◌, err_from_is_err_and, whole_behind, begins_itself, begins_more, cut_whole, cut}
+use Rattle.uv_inquiry.specs.Texts.{unsettled_text}
 use Rattle.uv_inquiry.proofs.Pieces.{three_pieces}
-use Rattle.std.proofs.Common.{◌∙◌, ◌≡◌, ◌++◌, codes}
-use Rattle.std.proofs.lemmas.Result.{err_from_is_err_and}
-use Rattle.uv_script.proofs.Writing.{whole_behind, begins_itself, begins_more, cut_whole}
-use Rattle.uv_text.proofs.Cuts.{cut}
 use Rattle.uv_inquiry.proofs.answer.push_unsettled.Goals as goal
 
 pub returns : goal.returns

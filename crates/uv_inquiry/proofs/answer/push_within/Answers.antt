@@ -1,11 +1,6 @@
-use Rattle.std.specs.Prelude.{codes, decimal}
-use Rattle.uv_inquiry.specs.Texts.{more_bounds}
+use Rattle.uv_inquiry.proofs.Names.{codes, more_bounds, ◌∙◌, ◌≡◌, ◌++◌, err_from_is_err_and, whole_behind, begins_itself, begins_more, cut_whole, decimal, cut}
+use Rattle.std.specs.Prelude.{decimal}
 use Rattle.uv_inquiry.proofs.Pieces.{three_pieces}
-use Rattle.std.proofs.Common.{◌∙◌, ◌≡◌, ◌++◌, codes}
-use Rattle.std.proofs.lemmas.Result.{err_from_is_err_and}
-use Rattle.uv_script.proofs.Writing.{whole_behind, begins_itself, begins_more, cut_whole}
-use Rattle.std.specs.Fmt.{decimal}
-use Rattle.uv_text.proofs.Cuts.{cut}
 use Rattle.uv_inquiry.proofs.answer.push_within.Goals as goal
 
 pub returns-in_ok-push_more_bounds-in-Some : goal.returns-in_ok-push_more_bounds-in-Some

@@ -1,8 +1,5 @@
-use Rattle.std.proofs.Common.{◌+◌, [], ◌∷◌, ap, sym, ◌∙◌, subst, arith, length-append}
-use Rattle.std.proofs.lemmas.Result.{err_from_is_err_and}
-use Rattle.uv_script.proofs.AfterLines.{line_number, lines_step}
-use Rattle.uv_inquiry.specs.Drafts.{Draft, unsaid}
-use Rattle.uv_inquiry.specs.Grammar.{ReadsAll, none}
+use Rattle.uv_inquiry.proofs.Names.{◌+◌, [], ◌∷◌, ap, sym, ◌∙◌, subst, arith, err_from_is_err_and, Draft, unsaid, ReadsAll, none, line_number, lines_step}
+use Rattle.std.proofs.Common.{length-append}
 use Rattle.uv_inquiry.proofs.Lines.{reads_step, all_read, line_fault}
 use Rattle.uv_inquiry.proofs.draft.read_lines.Goals as goal
 

@@ -1,7 +1,4 @@
-use Rattle.std.proofs.Common.{◌≡◌, ◌+◌, ◌++◌, length, map}
-use Rattle.uv_script.specs.Lines.{lines_of}
-use Rattle.uv_inquiry.specs.Drafts.{unsaid}
-use Rattle.uv_inquiry.specs.Grammar.{ReadsAll}
+use Rattle.uv_inquiry.proofs.Names.{◌≡◌, ◌+◌, ◌++◌, length, map, lines_of, unsaid, ReadsAll}
 use Rattle.uv_inquiry.proofs.draft.read_lines.Given as goal
 
 abbrev pub invariant-loop-line : goal.invariant-loop-line

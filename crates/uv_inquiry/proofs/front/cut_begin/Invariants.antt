@@ -1,4 +1,4 @@
-use Rattle.std.proofs.Common.{length}
+use Rattle.uv_inquiry.proofs.Names.{length}
 use Rattle.uv_inquiry.proofs.Cuts.{Reached}
 use Rattle.uv_inquiry.proofs.front.cut_begin.Given as goal
 

@@ -1,5 +1,4 @@
-use Rattle.uv_script.specs.Grammar.{unread}
-use Rattle.uv_engine.proofs.Starting.{no_script, no_script_fault}
+use Rattle.uv_inquiry.proofs.Names.{unread, no_script, no_script_fault}
 use Rattle.uv_inquiry.proofs.front.without_begin.Goals as goal
 
 pub returns-in-Err : goal.returns-in-Err

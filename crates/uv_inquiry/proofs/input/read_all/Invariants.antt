@@ -1,4 +1,4 @@
-use Rattle.std.proofs.Common.{◌≡◌, ◌+◌, ◌-◌, ◌<◌, ◌^◌, ◌++◌, length}
+use Rattle.uv_inquiry.proofs.Names.{◌≡◌, ◌+◌, ◌-◌, ◌<◌, ◌^◌, ◌++◌, length}
 use Rattle.uv_inquiry.proofs.input.read_all.Given as goal
 
 -- what was read, with what is left, is all

@@ -1,6 +1,4 @@
-use Rattle.std.proofs.Common.{◌≡◌, false, None}
-use Rattle.uv_asking.specs.Asked.{asked_in}
-use Rattle.uv_inquiry.specs.Repeats.{GoesOn, repeats, idles}
+use Rattle.uv_inquiry.proofs.Names.{◌≡◌, false, None, asked_in, GoesOn, repeats, idles}
 use Rattle.uv_inquiry.proofs.Ops.{repeat_wanted, not_repeated, must}
 use Rattle.uv_inquiry.proofs.repeats.goes_on.Goals as goal
 

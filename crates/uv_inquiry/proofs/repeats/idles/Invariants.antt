@@ -1,8 +1,6 @@
-use Rattle.std.proofs.Common.{◌<◌}
-use Rattle.uv_ids.specs.declared.id.Var.{Var}
+use Rattle.uv_inquiry.proofs.Names.{◌<◌, Var, HasOp}
 use Rattle.uv_ids.specs.declared.phase.Kind.TheVariants as kind
 use Rattle.uv_script.specs.declared.op.Op.TheVariants as op
-use Rattle.uv_inquiry.specs.Repeats.{HasOp}
 use Rattle.uv_inquiry.proofs.repeats.idles.Given as goal
 
 -- none of the names before is an idle handle that is started

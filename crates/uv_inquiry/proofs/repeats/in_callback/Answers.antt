@@ -1,4 +1,4 @@
-use Rattle.std.proofs.Common.{sym, ◌∙◌}
+use Rattle.uv_inquiry.proofs.Names.{sym, ◌∙◌}
 use Rattle.uv_inquiry.proofs.Ops.{line_wanted, none_wanted}
 use Rattle.uv_inquiry.proofs.repeats.in_callback.Goals as goal
 

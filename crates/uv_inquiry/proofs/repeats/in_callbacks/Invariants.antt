@@ -1,8 +1,5 @@
-use Rattle.std.proofs.Common.{ℕ, ◌<◌}
-use Rattle.uv_ids.specs.declared.id.Var.{Var}
-use Rattle.uv_ids.specs.declared.seen.Callback.{Callback}
+use Rattle.uv_inquiry.proofs.Names.{ℕ, ◌<◌, Var, Callback, NoneAt}
 use Rattle.uv_ids.specs.declared.seen.Site.TheVariants as site
-use Rattle.uv_inquiry.specs.Repeats.{NoneAt}
 use Rattle.uv_inquiry.proofs.repeats.in_callbacks.Given as goal
 
 -- none of the names before has such a line

@@ -1,7 +1,5 @@
-use Rattle.std.proofs.Common.{ℕ}
-use Rattle.uv_ids.specs.declared.seen.Callback.{Callback}
+use Rattle.uv_inquiry.proofs.Names.{ℕ, Callback, NoneAt}
 use Rattle.uv_ids.specs.declared.seen.Site.TheVariants as site
-use Rattle.uv_inquiry.specs.Repeats.{NoneAt}
 use Rattle.uv_inquiry.proofs.Ops.{each_kind}
 use Rattle.uv_inquiry.proofs.repeats.in_callbacks_of.Goals as goal
 

@@ -1,6 +1,5 @@
-use Rattle.std.proofs.Common.{ℕ, ◌<◌}
+use Rattle.uv_inquiry.proofs.Names.{ℕ, ◌<◌, NoneAt}
 use Rattle.uv_ids.specs.declared.seen.Site.TheVariants as site
-use Rattle.uv_inquiry.specs.Repeats.{NoneAt}
 use Rattle.uv_inquiry.proofs.repeats.in_main.Given as goal
 
 -- none of the lines before is one

@@ -1,5 +1,4 @@
-use Rattle.std.proofs.Common.{◌≡◌, ◌++◌, rules, append_assoc, codes, arith}
-use Rattle.uv_script.proofs.Writing.{writing}
+use Rattle.uv_inquiry.proofs.Names.{◌≡◌, ◌++◌, rules, append_assoc, codes, arith, writing}
 use Rattle.uv_script.specs.Text.{script_text}
 use Rattle.uv_inquiry.specs.Texts.{session_text}
 use Rattle.uv_inquiry.proofs.session.push_session.Goals as goal

@@ -1,9 +1,4 @@
-use Rattle.std.proofs.Common.{◌++◌, map, ap, refl, ◌∙◌, arith}
-use Rattle.std.proofs.lemmas.List.{take_all}
-use Rattle.std.proofs.lemmas.Result.{err_from_is_err_and}
-use Rattle.uv_script.specs.Text.{lines_text}
-use Rattle.uv_script.proofs.Writing.{line_cut, feed_cut, line_fed}
-use Rattle.uv_text.specs.Recording.{step_line}
+use Rattle.uv_inquiry.proofs.Names.{◌++◌, map, ap, refl, ◌∙◌, arith, take_all, err_from_is_err_and, lines_text, line_cut, feed_cut, line_fed, step_line}
 use Rattle.uv_inquiry.proofs.session.push_step_lines.Goals as goal
 
 pub returns-in_err-push_step : goal.returns-in_err-push_step

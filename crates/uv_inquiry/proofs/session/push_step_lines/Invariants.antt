@@ -1,6 +1,4 @@
-use Rattle.std.proofs.Common.{◌≡◌, ◌++◌, map, take}
-use Rattle.uv_script.specs.Text.{lines_text}
-use Rattle.uv_text.specs.Recording.{step_line}
+use Rattle.uv_inquiry.proofs.Names.{◌≡◌, ◌++◌, map, take, lines_text, step_line}
 use Rattle.uv_inquiry.proofs.session.push_step_lines.Given as goal
 
 -- the lines before this one

@@ -1,4 +1,4 @@
-use Rattle.std.proofs.Common.{◌≡◌, ◌≤◌, take, length}
+use Rattle.uv_live.proofs.Names.{◌≡◌, ◌≤◌, take, length}
 use Rattle.uv_live.proofs.following.first_apart.Given as goal
 
 -- the events so far are the log's

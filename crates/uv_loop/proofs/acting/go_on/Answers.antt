@@ -1,4 +1,4 @@
-use Rattle.uv_memory.specs.Image.{image_of}
+use Rattle.uv_loop.proofs.Names.{image_of}
 use Rattle.uv_loop.proofs.Events.{tick_leads}
 use Rattle.uv_loop.proofs.acting.go_on.Goals as goal
 

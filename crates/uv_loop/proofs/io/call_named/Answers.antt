@@ -1,4 +1,4 @@
-use Rattle.uv_memory.specs.Image.{image_of}
+use Rattle.uv_loop.proofs.Names.{image_of}
 use Rattle.uv_loop.proofs.CallsOfIo.{io_leads}
 use Rattle.uv_loop.proofs.io.call_named.Goals as goal
 

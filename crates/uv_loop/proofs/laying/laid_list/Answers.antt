@@ -1,4 +1,4 @@
-use Rattle.std.proofs.Common.{◌∙◌}
+use Rattle.uv_loop.proofs.Names.{◌∙◌}
 use Rattle.uv_loop.proofs.Lies.{first_is, last_is}
 use Rattle.uv_loop.proofs.laying.laid_list.Goals as goal
 

@@ -1,4 +1,4 @@
-use Rattle.uv_memory.specs.Image.{image_of}
+use Rattle.uv_loop.proofs.Names.{image_of}
 use Rattle.uv_loop.proofs.Lies.{ShowsFirst}
 use Rattle.uv_loop.proofs.laying.laid_slots.Given as goal
 

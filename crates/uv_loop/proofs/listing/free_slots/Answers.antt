@@ -1,4 +1,4 @@
-use Rattle.std.proofs.Common.{subst}
+use Rattle.uv_loop.proofs.Names.{subst}
 use Rattle.uv_loop.proofs.Walked.{IsFreeWalked, free_within, free_goes}
 use Rattle.uv_loop.proofs.listing.free_slots.Goals as goal
 

@@ -1,6 +1,5 @@
-use Rattle.uv_loop.proofs.Names.{None, sym, ap, ◌∙◌, Loop, Running, Run, held, image_of}
-use Rattle.uv_model.specs.Next.{next, stage_step}
-use Rattle.uv_stands.specs.PackedPlaces.{place_of}
+use Rattle.uv_loop.proofs.Names.{None, sym, ap, ◌∙◌, Loop, Running, Run, held, image_of, stage_step, place_of}
+use Rattle.uv_model.specs.Next.{next}
 use Rattle.uv_loop.proofs.Refusing.{run_there, turns_by}
 use Rattle.uv_loop.proofs.looping.stage_on.Goals as goal
 

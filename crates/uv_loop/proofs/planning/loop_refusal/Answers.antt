@@ -1,5 +1,4 @@
-use Rattle.uv_loop.proofs.Names.{IfNone, None, Some, sym, ap, subst, ◌∙◌, Body, Next, Run, refusal_of, image_of, MayAt}
-use Rattle.uv_stands.specs.PackedPlaces.{place_of, stage_of}
+use Rattle.uv_loop.proofs.Names.{IfNone, None, Some, sym, ap, subst, ◌∙◌, Body, Next, Run, refusal_of, image_of, MayAt, place_of, stage_of}
 use Rattle.uv_model.specs.declared.place.Stage.TheVariants.{Poll}
 use Rattle.uv_loop.proofs.Refusing.{body_taken, main_there, run_there}
 use Rattle.uv_loop.proofs.planning.loop_refusal.Goals as goal

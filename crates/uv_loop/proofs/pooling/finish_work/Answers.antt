@@ -1,4 +1,4 @@
-use Rattle.uv_memory.specs.Image.{held}
+use Rattle.uv_loop.proofs.Names.{held}
 use Rattle.uv_loop.proofs.Finishes.{finish_leads}
 use Rattle.uv_loop.proofs.pooling.finish_work.Goals as goal
 

@@ -1,4 +1,4 @@
-use Rattle.std.proofs.Common.{refl, sym, ◌∙◌}
+use Rattle.uv_model.proofs.Names.{refl, sym, ◌∙◌}
 use Rattle.uv_model.proofs.Runners.{found_here, found_later, found_nowhere}
 use Rattle.uv_model.proofs.running.runner_of.Goals as goal
 

@@ -1,4 +1,4 @@
-use Rattle.uv_memory.specs.Image.{held}
+use Rattle.uv_ops.proofs.Names.{held}
 use Rattle.uv_ops.proofs.Edited.{edited_stands}
 use Rattle.uv_ops.proofs.edits.edit.Goals as goal
 

@@ -1,4 +1,4 @@
-use Rattle.uv_memory.specs.Image.{image_of}
+use Rattle.uv_ops.proofs.Names.{image_of}
 use Rattle.uv_ops.proofs.Sends.{send_refused, send_done, send_performs}
 use Rattle.uv_ops.proofs.sending.send.Goals as goal
 

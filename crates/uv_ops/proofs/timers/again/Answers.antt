@@ -1,5 +1,4 @@
-use Rattle.uv_ops.proofs.Names.{◌∙◌, again, held}
-use Rattle.uv_stands.proofs.Starts.{again_does}
+use Rattle.uv_ops.proofs.Names.{◌∙◌, again, held, again_does}
 use Rattle.uv_ops.proofs.timers.again.Goals as goal
 
 pub returns-clause-performs : goal.returns-clause-performs

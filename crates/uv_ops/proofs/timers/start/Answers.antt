@@ -1,5 +1,4 @@
-use Rattle.uv_ops.proofs.Names.{◌∙◌, start, held}
-use Rattle.uv_stands.proofs.Starts.{start_does}
+use Rattle.uv_ops.proofs.Names.{◌∙◌, start, held, start_does}
 use Rattle.uv_ops.proofs.timers.start.Goals as goal
 
 pub returns-clause-performs : goal.returns-clause-performs

@@ -1,5 +1,4 @@
-use Rattle.uv_memory.specs.Image.{held}
-use Rattle.uv_stands.proofs.Stops.{stop_does}
+use Rattle.uv_ops.proofs.Names.{held, stop_does}
 use Rattle.uv_ops.proofs.timers.stop_timer.Goals as goal
 
 pub returns-clause-does : goal.returns-clause-does

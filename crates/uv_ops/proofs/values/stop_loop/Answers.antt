@@ -1,4 +1,4 @@
-use Rattle.uv_memory.specs.Image.{image_of}
+use Rattle.uv_ops.proofs.Names.{image_of}
 use Rattle.uv_ops.proofs.Valued.{stop_performs}
 use Rattle.uv_ops.proofs.values.stop_loop.Goals as goal
 

@@ -1,5 +1,4 @@
-use Rattle.std.proofs.Common.{sym}
-use Rattle.uv_memory.specs.Image.{held}
+use Rattle.uv_ops.proofs.Names.{sym, held}
 use Rattle.uv_ops.proofs.Starting.{starts, activates}
 use Rattle.uv_ops.proofs.watchers.start_inactive.Goals as goal
 

@@ -1,4 +1,4 @@
-use Rattle.uv_memory.specs.Image.{held}
+use Rattle.uv_ops.proofs.Names.{held}
 use Rattle.uv_ops.proofs.Stopping.{stops}
 use Rattle.uv_ops.proofs.watchers.stop_watcher.Goals as goal
 

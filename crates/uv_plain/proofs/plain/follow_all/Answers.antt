@@ -1,6 +1,5 @@
-use Rattle.uv_plain.proofs.Names.{arith, length-take, common_steps}
+use Rattle.uv_plain.proofs.Names.{arith, length-take, common_steps, after-take}
 use Rattle.uv_model.proofs.Bounded.{after_able}
-use Rattle.uv_model.proofs.Runs.{after-take}
 use Rattle.uv_plain.proofs.plain.follow_all.Goals as goal
 
 pub follow-requires : goal.follow-requires

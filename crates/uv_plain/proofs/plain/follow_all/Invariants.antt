@@ -1,5 +1,4 @@
-use Rattle.std.proofs.Common.{◌≡◌, take}
-use Rattle.uv_model.specs.After.{after}
+use Rattle.uv_plain.proofs.Names.{◌≡◌, take, after}
 use Rattle.uv_plain.proofs.plain.follow_all.Given as goal
 
 -- the state is that after the steps so far

@@ -1,4 +1,4 @@
-use Rattle.std.proofs.Common.{◌∙◌}
+use Rattle.uv_pool.proofs.Names.{◌∙◌}
 use Rattle.uv_pool.proofs.Numbers.{number_read, number_past}
 use Rattle.uv_pool.proofs.queue.at_number.Goals as goal
 

@@ -1,4 +1,4 @@
-use Rattle.std.proofs.Common.{◌≡◌, ◌+◌, deque_len, deque_capacity}
+use Rattle.uv_pool.proofs.Names.{◌≡◌, ◌+◌, deque_len, deque_capacity}
 use Rattle.uv_pool.proofs.JobLists.{Skipped}
 use Rattle.uv_pool.proofs.queue.skip_empty.Given as goal
 

@@ -1,5 +1,4 @@
-use Rattle.std.proofs.Common.{inr, rules}
-use Rattle.std.proofs.lemmas.Result.{err_from_is_err_and}
+use Rattle.uv_pool.proofs.Names.{inr, rules, err_from_is_err_and}
 use Rattle.uv_pool.proofs.shift.serve.Goals as goal
 
 -- the bench didn't take the result of the job that it gave

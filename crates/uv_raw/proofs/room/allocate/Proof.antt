@@ -1,24 +1,15 @@
 -- `allocate` cuts a new block into empty places.
-use Rattle.uv_raw.proofs.Names.{◌≡◌, ℕ, ◌*◌, ◌<◌, ◌^◌, List, [], ◌∷◌, ◌++◌, None, refl, sym, ap, subst, arith, lit<, w64, SProp, id⊢, flft, ftrue, Body, ty_array, inst_fn, Val, vptr, vint, vstruct, vcons, vnil, align, capped, capped_fits, Wp, WpFn, after_seq, at_return, ‵, raw, ◌⊛◌, any_q, at_ret, prop, ◌$◌, ◌∵◌, !, qed, move, keep, drop, use1, use2, split, join, fsplit, fjoin, pick, await, regoal, suffices, done, whole, agg, enter, stop, fld, bin, lit, size_word, align_word, of_opd, and_then, no_more, first, exec, returns, switches_on, live, vrt, in_variant, alloc_all, pass_all, free_all, look_at, get, get_in, get_tag, sets, sets_last, is, lands_as, env, tables, ◌⊑◌, fact, framed, RefOf, usize, yes, Is, RattleType, owns, block_ptr, plain, types_at, nothing, owned, heard, Struct, Stays, stay_dropped, walk_of, says, ends_at, Goes-dropped, proved_at, calls_at, after, head, arm_body, El, R, args, elτ, word, word-Good, as_written}
-use mathlib.Core.Bool.{true, false}
-use lib.ListN.{replicate, length-replicate}
-use types.Kit.{Post as After, ⋆, by}
-use base.Logic.{ent}
+use Rattle.uv_raw.proofs.Names.{◌≡◌, ℕ, ◌*◌, ◌<◌, ◌^◌, List, [], ◌∷◌, ◌++◌, None, refl, sym, ap, subst, arith, lit<, w64, SProp, id⊢, flft, ftrue, Body, ty_array, inst_fn, Val, vptr, vint, vstruct, vcons, vnil, align, capped, capped_fits, Wp, WpFn, after_seq, at_return, ‵, raw, ◌⊛◌, any_q, at_ret, prop, ◌$◌, ◌∵◌, !, qed, move, keep, drop, use1, use2, split, join, fsplit, fjoin, pick, await, regoal, suffices, done, whole, agg, enter, stop, fld, bin, lit, size_word, align_word, of_opd, and_then, no_more, first, exec, returns, switches_on, live, vrt, in_variant, alloc_all, pass_all, free_all, look_at, get, get_in, get_tag, sets, sets_last, is, lands_as, env, tables, ◌⊑◌, fact, framed, RefOf, usize, yes, Is, RattleType, owns, block_ptr, plain, types_at, nothing, owned, heard, Struct, Stays, stay_dropped, walk_of, says, ends_at, Goes-dropped, proved_at, calls_at, after, head, arm_body, El, R, args, elτ, word, word-Good, as_written, true, false, replicate, length-replicate, ⋆, by, ent, Struct-Makes, IfOk, Answer-typed, uncapped, block_ty, block_size, block_align, first_Good, rewrite, heap_token, row, block}
+use types.Kit.{Post as After}
 use denote.Param.{layout}
-use denote.Struct.Struct.{Struct-Makes}
 use denote.Struct.Declared as Declared
-use Rattle.std.specs.Prelude.{IfOk, Ok, Err}
+use Rattle.std.specs.Prelude.{Ok, Err}
 use Rattle.std.specs.Vec.Ownership.{FitsInBlock}
 use Rattle.core.specs.contracts.result.Result as Result
 use Rattle.core.specs.contracts.alloc.AllocError as Refused
-use Rattle.core.proofs.alloc.Calls.{Answer-typed}
-use Rattle.core.proofs.slots.Leases.{uncapped, block_ty, block_size, block_align}
 use Rattle.std_alloc.proofs.ResultValues.{ok_of, err_of}
-use Rattle.std_alloc.proofs.RcSteps.{first_Good}
 use Rattle.std_heap.specs.contracts.Global as Heap
 use Rattle.std_heap.proofs.GlobalAllocator.allocate.Met as callee
-use types.Kit.{rewrite}
-use Rattle.uv_raw.specs.Ownership.{heap_token, row, block}
 use Rattle.uv_raw.proofs.Heap.{Takes, at_takes, Takes-goes, Took, answers}
 use Rattle.uv_raw.proofs.Places.{size, cut_up}
 use Rattle.uv_raw.proofs.Opened.{Room, room_made}

@@ -1,12 +1,8 @@
 -- `deallocate` makes one block of the places, and gives it back.
-use Rattle.uv_raw.proofs.Names.{◌≡◌, ℕ, ◌*◌, ◌<◌, ◌^◌, List, [], ◌∷◌, ◌++◌, length, refl, sym, ap, subst, arith, w64, SProp, id⊢, flft, froom, ftrue, ty_array, ty_unit, inst_fn, Val, vptr, vint, vunit, has_ty, WT, align, capped, capped_fits, WpFn, ‵, raw, ◌⊛◌, at_ret, prop, ◌$◌, ◌∵◌, !, qed, move, keep, drop, use1, split, join, group, fsplit, fsplit3, fjoin, feq_i, feq_l, pick, await, rewrite, regoal, suffices, done, whole, sub, enter, stop, fld, bin, size_word, align_word, unit_lit, of_opd, and_then, no_more, first, blocks, exec, returns, alloc_all, pass_all, free_all, look_at, get, get_in, sets, is, lands_last, env, tables, ◌⊑◌, fact, framed, RefOf, usize, yes, no, owns, block_ptr, plain, types_at, nothing, heard, Stays, stay_dropped, walk_of, ends_at, Goes-dropped, proved_at, calls_at_last, after, El, R, args, elτ, word, word-Good, as_raw}
+use Rattle.uv_raw.proofs.Names.{◌≡◌, ℕ, ◌*◌, ◌<◌, ◌^◌, List, [], ◌∷◌, ◌++◌, length, refl, sym, ap, subst, arith, w64, SProp, id⊢, flft, froom, ftrue, ty_array, ty_unit, inst_fn, Val, vptr, vint, vunit, has_ty, WT, align, capped, capped_fits, WpFn, ‵, raw, ◌⊛◌, at_ret, prop, ◌$◌, ◌∵◌, !, qed, move, keep, drop, use1, split, join, group, fsplit, fsplit3, fjoin, feq_i, feq_l, pick, await, rewrite, regoal, suffices, done, whole, sub, enter, stop, fld, bin, size_word, align_word, unit_lit, of_opd, and_then, no_more, first, blocks, exec, returns, alloc_all, pass_all, free_all, look_at, get, get_in, sets, is, lands_last, env, tables, ◌⊑◌, fact, framed, RefOf, usize, yes, no, owns, block_ptr, plain, types_at, nothing, heard, Stays, stay_dropped, walk_of, ends_at, Goes-dropped, proved_at, calls_at_last, after, El, R, args, elτ, word, word-Good, as_raw, only, Goes-blank, uncapped, block_ty, block_size, block_align, heap_token, block}
 use lib.Dec.{T}
-use denote.Steps.{only}
-use Rattle.core.proofs.alloc.Calls.{Goes-blank}
-use Rattle.core.proofs.slots.Leases.{uncapped, block_ty, block_size, block_align}
 use Rattle.std_heap.specs.contracts.Global as Heap
 use Rattle.std_heap.proofs.GlobalAllocator.deallocate.Met as callee
-use Rattle.uv_raw.specs.Ownership.{heap_token, block}
 use Rattle.uv_raw.proofs.Heap.{Gives, at_gives, Gives-goes, Gave}
 use Rattle.uv_raw.proofs.Places.{size, put_together}
 use Rattle.uv_raw.proofs.Opened.{Room, room_had}

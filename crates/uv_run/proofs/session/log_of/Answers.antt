@@ -1,6 +1,4 @@
-use Rattle.uv_run.proofs.Names.{◌≡◌, ◌∙◌, ◌+◌, ◌-◌, ◌++◌, ℕ, ap, ap₂, sym, subst, length, List, Some, arith, Event, PoolEvent, Program, events_in}
-use Rattle.std.specs.Prelude.{slice_get}
-use Rattle.uv_model.specs.After.{seen_by}
+use Rattle.uv_run.proofs.Names.{◌≡◌, ◌∙◌, ◌+◌, ◌-◌, ◌++◌, ℕ, ap, ap₂, sym, subst, length, List, Some, arith, Event, PoolEvent, Program, events_in, slice_get, seen_by}
 use Rattle.uv_run.proofs.Steps.{events_step, all_events, seen_within}
 use Rattle.uv_run.proofs.session.log_of.Goals as goal
 

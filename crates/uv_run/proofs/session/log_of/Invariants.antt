@@ -1,5 +1,4 @@
-use Rattle.uv_run.proofs.Names.{◌≡◌, take, pool_events, those}
-use Rattle.uv_model.specs.After.{seen_by}
+use Rattle.uv_run.proofs.Names.{◌≡◌, take, pool_events, those, seen_by}
 use Rattle.uv_run.proofs.session.log_of.Given as goal
 
 -- the events of the steps so far

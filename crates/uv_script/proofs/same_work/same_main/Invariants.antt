@@ -1,5 +1,4 @@
-use Rattle.std.proofs.Common.{◌≡◌, ◌++◌, drop, map, take}
-use Rattle.uv_script.specs.SameWork.{same_main}
+use Rattle.uv_script.proofs.ProofNames.{◌≡◌, ◌++◌, drop, map, take, same_main}
 use Rattle.uv_script.proofs.same_work.same_main.Given as goal
 
 -- those up to here are changed, and the others as they were

@@ -1,5 +1,4 @@
-use Rattle.std.proofs.lemmas.Result.{err_from_is_err_and}
-use Rattle.uv_script.proofs.ProofNames.{arith, main_line}
+use Rattle.uv_script.proofs.ProofNames.{err_from_is_err_and, arith, main_line}
 use Rattle.uv_script.proofs.Writing.{line_cut, feed_cut, line_fed}
 use Rattle.uv_script.proofs.text.push_main.Goals as goal
 

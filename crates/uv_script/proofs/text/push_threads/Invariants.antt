@@ -1,5 +1,4 @@
-use Rattle.std.proofs.Common.{take}
-use Rattle.uv_script.proofs.ProofNames.{◌≡◌, ◌++◌, map, thread_line, lines_text}
+use Rattle.uv_script.proofs.ProofNames.{take, ◌≡◌, ◌++◌, map, thread_line, lines_text}
 use Rattle.uv_script.proofs.text.push_threads.Given as goal
 
 -- the lines so far are written

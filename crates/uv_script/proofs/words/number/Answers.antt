@@ -1,4 +1,4 @@
-use Rattle.std.proofs.Common.{ℕ, sym}
+use Rattle.uv_script.proofs.ProofNames.{ℕ, sym}
 use Rattle.uv_script.proofs.Checks.{number_of-exact, no_number_front, no_number_text, no_number_parse, number_parse}
 use Rattle.uv_script.proofs.words.number.Goals as goal
 

@@ -1,5 +1,4 @@
-use Rattle.std.proofs.Common.{refl}
-use Rattle.std.proofs.lemmas.List.{length-take-le}
+use Rattle.uv_search.proofs.Names.{refl, length-take-le}
 use Rattle.uv_search.proofs.Nearby.{few_at_first}
 use Rattle.uv_search.proofs.near.find_near.Goals as goal
 

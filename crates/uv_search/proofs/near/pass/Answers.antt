@@ -1,4 +1,4 @@
-use Rattle.std.proofs.Common.{◌≡◌, ◌+◌, ◌∙◌, drop, take, suc, ap, arith, false, length}
+use Rattle.uv_search.proofs.Names.{◌≡◌, ◌+◌, ◌∙◌, drop, take, suc, ap, arith, false, length}
 use Rattle.uv_search.proofs.Nearby.{entered_kept, few_here}
 use Rattle.uv_search.proofs.Retracing.{answers_further, leads_further, passed_further, passed_kept, went_back}
 use Rattle.uv_search.proofs.near.pass.Goals as goal
@@ -52,12 +52,7 @@ moves-preserved g c =
     }
 
 pub returns-in-None-clause-led : goal.returns-in-None-clause-led
-returns-in-None-clause-led g c =
-    let i = c.moves.invariant in
-    let stays = rw (c.in-None.is) at c.in_ok-answers.ensures.led in
-    went_back (rw (stays.0, stays.1) at c.go_back.ensures.before) i.before
+returns-in-None-clause-led g c = grind arith
 
 pub returns-clause-led : goal.returns-clause-led
-returns-clause-led g c =
-    let end : c.moves.index ≡ length c.args.way.now = omega arith in
-    went_back (rw (← end) at c.go_back-2.ensures.before) c.moves.invariant.before
+returns-clause-led g c = grind arith

@@ -1,6 +1,4 @@
-use Rattle.std.proofs.Common.{◌≡◌, ◌∷◌, drop, take}
-use Rattle.uv_search.specs.Settled.{AreFew, IsPassed}
-use Rattle.uv_search.specs.Ways.{LeadTo}
+use Rattle.uv_search.proofs.Names.{◌≡◌, ◌∷◌, drop, take, AreFew, IsPassed, LeadTo}
 use Rattle.uv_search.proofs.near.pass.Given as goal
 
 abbrev pub invariant-moves : goal.invariant-moves

@@ -1,4 +1,4 @@
-use Rattle.std.proofs.Common.{rules}
+use Rattle.uv_search.proofs.Names.{rules}
 use Rattle.uv_search.proofs.Nearby.{has_entered}
 use Rattle.uv_search.proofs.near.pass_on.Goals as goal
 

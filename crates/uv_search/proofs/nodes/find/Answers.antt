@@ -1,6 +1,4 @@
-use Rattle.std.proofs.Common.{◌<◌, ◌-◌, length, arith, slice_index_or}
-use Rattle.std.proofs.lemmas.Option.{slice_get-get_or}
-use Rattle.uv_search.specs.Chains.{place_of}
+use Rattle.uv_search.proofs.Names.{◌<◌, ◌-◌, length, arith, slice_index_or, slice_get-get_or, place_of}
 use Rattle.uv_search.proofs.Linking.{begins, goes_back}
 use Rattle.uv_search.proofs.nodes.find.Goals as goal
 

@@ -1,5 +1,4 @@
-use Rattle.std.proofs.Common.{length}
-use Rattle.uv_search.specs.Chains.{place_of}
+use Rattle.uv_search.proofs.Names.{length, place_of}
 use Rattle.uv_search.proofs.Linking.{Walks}
 use Rattle.uv_search.proofs.nodes.find.Given as goal
 

@@ -1,6 +1,4 @@
-use Rattle.std.proofs.Common.{◌≡◌, length, subst, ◌∙◌, arith, slice_get, slice_index_or, Some, ◌+◌}
-use Rattle.std.proofs.lemmas.Option.{slice_get-get_or}
-use Rattle.uv_search.specs.Chains.{place_of}
+use Rattle.uv_search.proofs.Names.{◌≡◌, length, subst, ◌∙◌, arith, slice_get, slice_index_or, Some, ◌+◌, slice_get-get_or, place_of}
 use Rattle.uv_search.proofs.KeyLists.{set_long}
 use Rattle.uv_search.proofs.Linking.{linked_anew}
 use Rattle.uv_search.proofs.nodes.link.Goals as goal

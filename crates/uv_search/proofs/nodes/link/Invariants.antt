@@ -1,5 +1,4 @@
-use Rattle.std.proofs.Common.{◌≡◌, length, map}
-use Rattle.uv_search.specs.Chains.{Linked, place_of}
+use Rattle.uv_search.proofs.Names.{◌≡◌, length, map, Linked, place_of}
 use Rattle.uv_search.proofs.nodes.link.Given as goal
 
 abbrev pub invariant-loop-row : goal.invariant-loop-row

@@ -1,7 +1,4 @@
-use Rattle.std.proofs.Common.{◌≡◌, ◌<◌, length, subst, arith, slice_get, slice_index_or, Some}
-use Rattle.std.proofs.lemmas.Grind.{common_steps}
-use Rattle.std.proofs.lemmas.Option.{slice_get-get_or}
-use Rattle.uv_search.specs.Chains.{place_of}
+use Rattle.uv_search.proofs.Names.{◌≡◌, ◌<◌, length, subst, arith, slice_get, slice_index_or, Some, common_steps, slice_get-get_or, place_of}
 use Rattle.uv_search.proofs.Linking.{linked_more}
 use Rattle.uv_search.proofs.nodes.put.Goals as goal
 

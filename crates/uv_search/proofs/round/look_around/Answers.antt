@@ -1,4 +1,4 @@
-use Rattle.std.proofs.Common.{[], refl}
+use Rattle.uv_search.proofs.Names.{[], refl}
 use Rattle.uv_search.proofs.Nearby.{few_here}
 use Rattle.uv_search.proofs.round.look_around.Goals as goal
 

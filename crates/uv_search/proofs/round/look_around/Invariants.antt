@@ -1,5 +1,4 @@
-use Rattle.std.proofs.Common.{◌≡◌}
-use Rattle.uv_search.specs.Settled.{AreFew}
+use Rattle.uv_search.proofs.Names.{◌≡◌, AreFew}
 use Rattle.uv_search.proofs.round.look_around.Given as goal
 
 abbrev pub invariant-places : goal.invariant-places

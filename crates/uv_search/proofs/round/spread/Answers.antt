@@ -1,4 +1,4 @@
-use Rattle.std.proofs.Common.{◌∙◌}
+use Rattle.uv_search.proofs.Names.{◌∙◌}
 use Rattle.uv_search.proofs.round.spread.Goals as goal
 
 pub moves-preserved : goal.moves-preserved

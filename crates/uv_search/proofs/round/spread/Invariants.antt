@@ -1,6 +1,4 @@
-use Rattle.std.proofs.Common.{◌≡◌}
-use Rattle.uv_search.specs.Settled.{AreFew}
-use Rattle.uv_search.specs.Ways.{CanLead}
+use Rattle.uv_search.proofs.Names.{◌≡◌, AreFew, CanLead}
 use Rattle.uv_search.proofs.round.spread.Given as goal
 
 abbrev pub invariant-moves : goal.invariant-moves

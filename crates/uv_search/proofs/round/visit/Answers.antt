@@ -1,4 +1,4 @@
-use Rattle.std.proofs.Common.{take}
+use Rattle.uv_search.proofs.Names.{take}
 use Rattle.uv_search.proofs.Retracing.{went_back}
 use Rattle.uv_search.proofs.round.visit.Goals as goal
 

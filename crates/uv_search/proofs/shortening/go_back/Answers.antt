@@ -1,4 +1,4 @@
-use Rattle.std.proofs.Common.{◌∷◌, arith, ◌∙◌}
+use Rattle.uv_search.proofs.Names.{◌∷◌, arith, ◌∙◌}
 use Rattle.uv_search.proofs.Retracing.{drop_next, some_left}
 use Rattle.uv_search.proofs.shortening.go_back.Goals as goal
 

@@ -1,4 +1,4 @@
-use Rattle.std.proofs.Common.{◌≡◌, ◌∷◌, drop}
+use Rattle.uv_search.proofs.Names.{◌≡◌, ◌∷◌, drop}
 use Rattle.uv_search.proofs.shortening.go_back.Given as goal
 
 abbrev pub invariant-back : goal.invariant-back

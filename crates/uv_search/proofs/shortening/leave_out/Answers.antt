@@ -1,13 +1,9 @@
-use Rattle.std.proofs.Common.{◌≡◌, ◌+◌, ◌++◌, arith, drop, refl, take}
-use Rattle.std.proofs.lemmas.Grind.{common_steps}
+use Rattle.uv_search.proofs.Names.{◌≡◌, ◌+◌, ◌++◌, arith, drop, refl, take, common_steps}
 use Rattle.uv_search.proofs.Retracing.{went_back}
 use Rattle.uv_search.proofs.shortening.leave_out.Goals as goal
 
 pub returns-in-Some-clause-left : goal.returns-in-Some-clause-left
-returns-in-Some-clause-left g c =
-    let made = rw c.in-Some.is at c.in_ok-made.ensures.made in
-    let back = went_back (rw (c.len.ensures, c.in-Some.made.ok.0) at c.go_back.ensures.before) made.2 in
-    (back.0, back.1, (grind (arith, common_steps, made.0), (g.M.Maze.place c.retrace.new.maze, made.1)))
+returns-in-Some-clause-left g c = grind (arith, went_back, common_steps)
 
 pub returns-clause-left : goal.returns-clause-left
 returns-clause-left g c =

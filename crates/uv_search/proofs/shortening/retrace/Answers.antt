@@ -1,6 +1,4 @@
-use Rattle.std.proofs.Common.{◌∙◌, [], ◌∷◌, ap, arith, get_or, inl, inr, length, length-append, subst, sym, take, true}
-use Rattle.std.proofs.lemmas.List.{take_more}
-use Rattle.uv_search.specs.Ways.{LeadPast}
+use Rattle.uv_search.proofs.Names.{◌∙◌, [], ◌∷◌, ap, arith, get_or, inl, inr, length, length-append, subst, sym, take, true, take_more, LeadPast}
 use Rattle.uv_search.proofs.Retracing.{past_after, stands_after, stands_on, take_whole, went_back}
 use Rattle.uv_search.proofs.shortening.retrace.Goals as goal
 
@@ -33,27 +31,10 @@ returns-in-Answered-clause-made g c =
     let number = get_or c.args.way.now c.moves.index 0 in
     let stands = stands_on (m.moves r) (m.next r) true (m.place c.args.maze.now) (m.before c.args.maze.now) c.moves.made.items
     (m.place c.moves.maze) (m.before c.moves.maze) number (m.place c.add_move.new.maze) (m.before c.add_move.new.maze) c.add_move.new.made.items
-    i.stands made in (
-      omega (arith, i.few, ap length made.made, length-append c.moves.made.items (number ∷ [])),
-      (
-        c.moves.made.items,
-        number,
-        made.made,
-        record { place = m.place c.moves.maze; way = i.stands.led; offered = made.offered; answers = made.leads },
-      ),
-      stands.before,
-    )
+    i.stands made in (grind (arith, length-append))
 
 pub returns-in-TooDeep-clause-made : goal.returns-in-TooDeep-clause-made
-returns-in-TooDeep-clause-made g c =
-    let i = c.moves.invariant in
-    let tries = rw (c.in-TooDeep.is, i.rules) at c.in_ok-add_move.ensures.tries in
-    let back = went_back (rw (c.len.ensures, c.add_move.new.made.ok.0, tries.1.0, tries.1.1, tries.1.2) at c.go_back.ensures.before)
-    i.stands.before in
-    (back.0, back.1, inr (g.M.Maze.place c.moves.maze, (c.moves.made.items, i.stands.led, tries.0)))
+returns-in-TooDeep-clause-made g c = grind arith
 
 pub returns-clause-made : goal.returns-clause-made
-returns-clause-made g c =
-    let i = c.moves.invariant in
-    let back = went_back (rw (c.len-2.ensures, c.moves.made.ok.0) at c.go_back-2.ensures.before) i.stands.before in
-    (back.0, back.1, inl (g.M.Maze.place c.moves.maze, rw (take_whole c.args.way.now c.moves.index c.moves-test.false) at i.past))
+returns-clause-made g c = grind (arith, went_back, take_whole)

@@ -1,5 +1,4 @@
-use Rattle.std.proofs.Common.{◌≡◌, ◌≤◌, length, take}
-use Rattle.uv_search.specs.Ways.{LeadPast}
+use Rattle.uv_search.proofs.Names.{◌≡◌, ◌≤◌, length, take, LeadPast}
 use Rattle.uv_search.proofs.Retracing.{Stands}
 use Rattle.uv_search.proofs.shortening.retrace.Given as goal
 

@@ -1,17 +1,8 @@
-use Rattle.std.proofs.Common.{◌∙◌, arith}
+use Rattle.uv_search.proofs.Names.{◌∙◌, arith}
 use Rattle.uv_search.proofs.shortening.shorten.Goals as goal
 
 pub tries-preserved-then-branch : goal.tries-preserved-then-branch
-tries-preserved-then-branch g c =
-    let i = c.tries.invariant in
-    let left = rw (c.if-branch.true, i.rules, i.place, i.before) at c.in_ok-leave_out.ensures.left in
-    record {
-      rules = c.leave_out.ensures.rules ∙ i.rules;
-      place = left.0;
-      before = left.1;
-      long = omega (arith, i.long, left.2.0);
-      still = λ q w. left.2.1;
-    }
+tries-preserved-then-branch g c = grind arith
 
 pub tries-preserved : goal.tries-preserved
 tries-preserved g c =

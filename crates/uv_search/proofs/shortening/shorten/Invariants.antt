@@ -1,5 +1,4 @@
-use Rattle.std.proofs.Common.{◌≡◌, ◌≤◌, length}
-use Rattle.uv_search.specs.Settled.{IsWay}
+use Rattle.uv_search.proofs.Names.{◌≡◌, ◌≤◌, length, IsWay}
 use Rattle.uv_search.proofs.shortening.shorten.Given as goal
 
 abbrev pub invariant-tries : goal.invariant-tries

@@ -1,5 +1,4 @@
-use Rattle.std.proofs.Common.{◌≡◌, ◌+◌, ◌<◌, ◌≤◌, ◌∙◌, drop, take, length, suc, ap, sym, subst, arith, get_or, false}
-use Rattle.uv_search.specs.Settled.{IsWay}
+use Rattle.uv_search.proofs.Names.{◌≡◌, ◌+◌, ◌<◌, ◌≤◌, ◌∙◌, drop, take, length, suc, ap, sym, subst, arith, get_or, false, IsWay}
 use Rattle.uv_search.proofs.Retracing.{answers_further, leads_further, mute_more, not_beyond, not_refused, take_whole, whole}
 use Rattle.uv_search.proofs.shortening.walk.Goals as goal
 
@@ -63,11 +62,7 @@ returns-in-Refused-clause-led g c =
     )
 
 pub returns-in-TooDeep-clause-led : goal.returns-in-TooDeep-clause-led
-returns-in-TooDeep-clause-led g c =
-    let i = c.moves.invariant in
-    let goes = rw (c.in-TooDeep.is, i.rules) at c.in_ok-go.ensures.ok in
-    rw (goes.1, goes.2)
-    (omega arith, i.led, i.before, λ q w. (g.M.Maze.place c.moves.maze, (take c.moves.index c.args.way.now, i.led, goes.0)))
+returns-in-TooDeep-clause-led g c = grind arith
 
 pub returns-clause-led : goal.returns-clause-led
 returns-clause-led g c =

@@ -1,6 +1,4 @@
-use Rattle.std.proofs.Common.{◌≡◌, ◌∷◌, drop, take}
-use Rattle.uv_search.specs.Settled.{IsWay}
-use Rattle.uv_search.specs.Ways.{LeadTo}
+use Rattle.uv_search.proofs.Names.{◌≡◌, ◌∷◌, drop, take, IsWay, LeadTo}
 use Rattle.uv_search.proofs.shortening.walk.Given as goal
 
 abbrev pub invariant-moves : goal.invariant-moves

@@ -1,5 +1,4 @@
-use Rattle.uv_memory.specs.Image.{image_of}
-use Rattle.uv_sections.proofs.Names.{◌∙◌, ap, standing}
+use Rattle.uv_sections.proofs.Names.{image_of, ◌∙◌, ap, standing}
 use Rattle.uv_sections.proofs.Calls.{calls_begun}
 use Rattle.uv_sections.proofs.calling.begin_body.Goals as goal
 

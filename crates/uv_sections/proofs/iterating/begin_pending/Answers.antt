@@ -1,4 +1,4 @@
-use Rattle.std.proofs.Common.{refl}
+use Rattle.uv_sections.proofs.Names.{refl}
 use Rattle.uv_sections.proofs.iterating.begin_pending.Goals as goal
 
 pub returns-clause-goes : goal.returns-clause-goes

@@ -1,5 +1,4 @@
-use Rattle.uv_memory.specs.Image.{image_of}
-use Rattle.uv_sections.proofs.Names.{◌+◌, ◌∙◌, Bool, false, Some, ap, sym, subst, End, Main, State, StandsFor, Moves}
+use Rattle.uv_sections.proofs.Names.{image_of, ◌+◌, ◌∙◌, Bool, false, Some, ap, sym, subst, End, Main, State, StandsFor, Moves}
 use Rattle.uv_sections.proofs.iterating.end_run.Goals as goal
 
 pub returns-clause-goes : goal.returns-clause-goes

@@ -1,5 +1,4 @@
-use Rattle.uv_memory.specs.Image.{image_of}
-use Rattle.uv_sections.proofs.Names.{subst, StandsFor}
+use Rattle.uv_sections.proofs.Names.{image_of, subst, StandsFor}
 use Rattle.uv_sections.proofs.standing.stand_in.Goals as goal
 
 pub returns-clause-stands : goal.returns-clause-stands

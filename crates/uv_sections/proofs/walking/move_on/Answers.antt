@@ -1,5 +1,4 @@
-use Rattle.std.proofs.Common.{refl}
-use Rattle.uv_memory.specs.Image.{image_of}
+use Rattle.uv_sections.proofs.Names.{refl, image_of}
 use Rattle.uv_sections.proofs.Moves.{handle_moved, none_moves}
 use Rattle.uv_sections.proofs.walking.move_on.Goals as goal
 

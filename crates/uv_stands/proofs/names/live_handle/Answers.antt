@@ -1,4 +1,4 @@
-use Rattle.uv_memory.specs.Image.{image_of}
+use Rattle.uv_stands.proofs.ProofNames.{image_of}
 use Rattle.uv_stands.proofs.Naming.{no_handle, some_handle}
 use Rattle.uv_stands.proofs.names.live_handle.Goals as goal
 

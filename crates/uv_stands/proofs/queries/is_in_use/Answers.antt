@@ -1,4 +1,4 @@
-use Rattle.uv_memory.specs.Image.{image_of}
+use Rattle.uv_stands.proofs.ProofNames.{image_of}
 use Rattle.uv_stands.proofs.Slots.{used_there}
 use Rattle.uv_stands.proofs.queries.is_in_use.Goals as goal
 

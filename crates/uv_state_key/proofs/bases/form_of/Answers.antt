@@ -1,12 +1,4 @@
-use Rattle.std.proofs.Common.{◌≡◌, List, ap, ap₂, ◌∙◌, arith}
-use Rattle.std.specs.Prelude.{min}
-use Rattle.uv_ids.specs.declared.id.Id.{Id}
-use Rattle.uv_model.specs.After.{after}
-use Rattle.uv_model.specs.declared.numbers.Numbers.{Numbers}
-use Rattle.uv_model.specs.declared.place.Place.{Place}
-use Rattle.uv_order.proofs.Reaching.{reached}
-use Rattle.uv_shift.specs.Earliest.{or_over}
-use Rattle.uv_state_key.specs.Computed.{first_at, least_among}
+use Rattle.uv_state_key.proofs.Names.{◌≡◌, List, ap, ap₂, ◌∙◌, arith, min, Id, after, Numbers, Place, reached, or_over, first_at, least_among}
 use Rattle.uv_state_key.proofs.ComputedLemmas.{first_same, least_same}
 use Rattle.uv_state_key.proofs.bases.form_of.Goals as goal
 

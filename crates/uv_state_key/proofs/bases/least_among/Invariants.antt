@@ -1,6 +1,4 @@
-use Rattle.std.proofs.Common.{◌≡◌, take}
-use Rattle.uv_model.specs.After.{after}
-use Rattle.uv_state_key.specs.Computed.{least_among}
+use Rattle.uv_state_key.proofs.Names.{◌≡◌, take, after, least_among}
 use Rattle.uv_state_key.proofs.bases.least_among.Given as goal
 
 -- that of those before this one

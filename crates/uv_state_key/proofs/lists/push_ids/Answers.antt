@@ -1,7 +1,4 @@
-use Rattle.std.proofs.Common.{◌∙◌, arith}
-use Rattle.uv_model.specs.After.{after}
-use Rattle.uv_key.proofs.Loops.{each_turn, list_end}
-use Rattle.uv_state_key.specs.Listing.{member_code}
+use Rattle.uv_state_key.proofs.Names.{◌∙◌, arith, after, each_turn, list_end, member_code}
 use Rattle.uv_state_key.proofs.lists.push_ids.Goals as goal
 
 pub loop-id-preserved : goal.loop-id-preserved

@@ -1,7 +1,4 @@
-use Rattle.std.proofs.Common.{◌≡◌, ◌++◌, take}
-use Rattle.std.specs.List.{flat_map}
-use Rattle.uv_model.specs.After.{after}
-use Rattle.uv_state_key.specs.Listing.{member_code}
+use Rattle.uv_state_key.proofs.Names.{◌≡◌, ◌++◌, take, flat_map, after, member_code}
 use Rattle.uv_state_key.proofs.lists.push_ids.Given as goal
 
 -- those before this one

@@ -1,6 +1,4 @@
-use Rattle.std.proofs.Common.{◌++◌, ap, ◌∙◌, arith}
-use Rattle.uv_key.specs.Codes.{number_code}
-use Rattle.uv_key.proofs.Loops.{each_turn, list_end}
+use Rattle.uv_state_key.proofs.Names.{◌++◌, ap, ◌∙◌, arith, number_code, each_turn, list_end}
 use Rattle.uv_state_key.proofs.lists.push_numbers.Goals as goal
 
 pub loop-number-preserved : goal.loop-number-preserved

@@ -1,6 +1,4 @@
-use Rattle.std.proofs.Common.{◌≡◌, ◌++◌, take}
-use Rattle.std.specs.List.{flat_map}
-use Rattle.uv_key.specs.Codes.{number_code}
+use Rattle.uv_state_key.proofs.Names.{◌≡◌, ◌++◌, take, flat_map, number_code}
 use Rattle.uv_state_key.proofs.lists.push_numbers.Given as goal
 
 -- those before this one

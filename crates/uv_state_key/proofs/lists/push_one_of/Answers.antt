@@ -1,8 +1,4 @@
-use Rattle.std.proofs.Common.{◌≡◌, ◌<◌, ◌++◌, List, [], OnOk, length, ap, sym, subst, ◌∙◌, append_assoc, arith}
-use Rattle.uv_ids.specs.declared.id.Id.{Id}
-use Rattle.uv_model.specs.After.{after}
-use Rattle.uv_model.specs.Queries.{members}
-use Rattle.uv_state_key.specs.Listing.{members_code}
+use Rattle.uv_state_key.proofs.Names.{◌≡◌, ◌<◌, ◌++◌, List, [], OnOk, length, ap, sym, subst, ◌∙◌, append_assoc, arith, Id, after, members, members_code}
 use Rattle.uv_state_key.proofs.Listed.{none_before}
 use Rattle.uv_state_key.proofs.lists.push_one_of.Goals as goal
 

@@ -1,6 +1,4 @@
-use Rattle.std.proofs.Common.{List, ℕ, [], ◌∷◌, ◌++◌, ap, sym, ◌∙◌, append_assoc}
-use Rattle.uv_model.specs.After.{after}
-use Rattle.uv_state_key.specs.Listing.{member_code}
+use Rattle.uv_state_key.proofs.Names.{List, ℕ, [], ◌∷◌, ◌++◌, ap, sym, ◌∙◌, append_assoc, after, member_code}
 use Rattle.uv_state_key.proofs.Listed.{one_code}
 use Rattle.uv_state_key.proofs.lists.push_single.Goals as goal
 

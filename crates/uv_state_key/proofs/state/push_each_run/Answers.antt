@@ -1,9 +1,4 @@
-use Rattle.std.proofs.Common.{◌<◌, ◌≤◌, ◌++◌, Option, length, ap, ◌∙◌, arith}
-use Rattle.uv_ids.specs.declared.id.Id.{Id}
-use Rattle.uv_model.specs.After.{after}
-use Rattle.uv_key.specs.Codes.{number_code, option_code}
-use Rattle.uv_key.proofs.Loops.{list_end, piece_of_option, piece_turn}
-use Rattle.uv_state_key.specs.Key.{id_code}
+use Rattle.uv_state_key.proofs.Names.{◌<◌, ◌≤◌, ◌++◌, Option, length, ap, ◌∙◌, arith, Id, after, number_code, option_code, list_end, piece_of_option, piece_turn, id_code}
 use Rattle.uv_state_key.proofs.state.push_each_run.Goals as goal
 
 pub loop-worker-preserved : goal.loop-worker-preserved

@@ -1,9 +1,4 @@
-use Rattle.std.proofs.Common.{◌≡◌, ◌++◌, Option, take}
-use Rattle.std.specs.List.{flat_map}
-use Rattle.uv_ids.specs.declared.id.Id.{Id}
-use Rattle.uv_model.specs.After.{after}
-use Rattle.uv_key.specs.Codes.{option_code}
-use Rattle.uv_state_key.specs.Key.{id_code}
+use Rattle.uv_state_key.proofs.Names.{◌≡◌, ◌++◌, Option, take, flat_map, Id, after, option_code, id_code}
 use Rattle.uv_state_key.proofs.state.push_each_run.Given as goal
 
 -- those before this one

@@ -1,9 +1,4 @@
-use Rattle.std.proofs.Common.{◌<◌, ◌++◌, length, ap, ◌∙◌, arith}
-use Rattle.uv_records.specs.declared.named.Named.{Named}
-use Rattle.uv_records.specs.Names.{unbound}
-use Rattle.uv_model.specs.After.{after}
-use Rattle.uv_key.specs.Codes.{number_code}
-use Rattle.uv_key.proofs.Loops.{piece_there, piece_turn, list_end}
+use Rattle.uv_state_key.proofs.Names.{◌<◌, ◌++◌, length, ap, ◌∙◌, arith, Named, unbound, after, number_code, piece_there, piece_turn, list_end}
 use Rattle.uv_state_key.specs.Key.{named_code}
 use Rattle.uv_state_key.proofs.Lengths.{counted}
 use Rattle.uv_state_key.proofs.state.push_names.Goals as goal

@@ -1,6 +1,4 @@
-use Rattle.std.proofs.Common.{◌≡◌, ◌++◌, take}
-use Rattle.std.specs.List.{flat_map}
-use Rattle.uv_model.specs.After.{after}
+use Rattle.uv_state_key.proofs.Names.{◌≡◌, ◌++◌, take, flat_map, after}
 use Rattle.uv_state_key.specs.Key.{named_code}
 use Rattle.uv_state_key.proofs.state.push_names.Given as goal
 

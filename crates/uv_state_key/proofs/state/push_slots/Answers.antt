@@ -1,9 +1,5 @@
-use Rattle.std.proofs.Common.{◌≡◌, ◌+◌, ◌<◌, ◌≤◌, ◌++◌, suc, length, ap, ◌∙◌, arith}
-use Rattle.uv_model.specs.After.{after}
-use Rattle.uv_key.specs.Codes.{number_code}
-use Rattle.uv_key.proofs.Loops.{list_end, piece_turn}
+use Rattle.uv_state_key.proofs.Names.{◌≡◌, ◌+◌, ◌<◌, ◌≤◌, ◌++◌, suc, length, ap, ◌∙◌, arith, after, number_code, list_end, piece_turn, and_content, content_at, holds_in, id_at}
 use Rattle.uv_state_key.specs.Key.{slot_code}
-use Rattle.uv_state_key.specs.Holding.{and_content, content_at, holds_in, id_at}
 use Rattle.uv_state_key.proofs.state.push_slots.Goals as goal
 
 pub loop-number-preserved : goal.loop-number-preserved

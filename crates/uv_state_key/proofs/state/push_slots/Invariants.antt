@@ -1,8 +1,5 @@
-use Rattle.std.proofs.Common.{◌≡◌, ◌≤◌, ◌++◌, length, take}
-use Rattle.std.specs.List.{flat_map}
-use Rattle.uv_model.specs.After.{after}
+use Rattle.uv_state_key.proofs.Names.{◌≡◌, ◌≤◌, ◌++◌, length, take, flat_map, after, holds_in}
 use Rattle.uv_state_key.specs.Key.{slot_code}
-use Rattle.uv_state_key.specs.Holding.{holds_in}
 use Rattle.uv_state_key.proofs.state.push_slots.Given as goal
 
 -- those before this one

@@ -1,6 +1,4 @@
-use Rattle.std.proofs.Common.{◌≡◌, ◌≤◌, length}
-use Rattle.uv_model.specs.After.{after}
-use Rattle.uv_state_key.specs.Holding.{holds_in}
+use Rattle.uv_state_key.proofs.Names.{◌≡◌, ◌≤◌, length, after, holds_in}
 use Rattle.uv_state_key.proofs.tale.held_by.Given as goal
 
 -- those before this one

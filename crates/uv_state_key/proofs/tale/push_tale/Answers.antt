@@ -1,7 +1,4 @@
-use Rattle.std.proofs.Common.{◌≡◌, ◌++◌, List, ℕ, OnOk, ap, ap₂, subst, ◌∙◌}
-use Rattle.uv_model.specs.After.{after}
-use Rattle.uv_shift.specs.Shift.{By}
-use Rattle.uv_shift.specs.Earliest.{base}
+use Rattle.uv_state_key.proofs.Names.{◌≡◌, ◌++◌, List, ℕ, OnOk, ap, ap₂, subst, ◌∙◌, after, By, base}
 use Rattle.uv_state_key.specs.Listing.{told_state_code}
 use Rattle.uv_state_key.proofs.TaleCodes.{told_state}
 use Rattle.uv_state_key.proofs.tale.push_tale.Goals as goal

@@ -1,11 +1,4 @@
-use Rattle.std.proofs.Common.{◌<◌, ◌++◌, List, ℕ, length, ap, ◌∙◌, arith}
-use Rattle.uv_records.specs.declared.named.Named.{Named}
-use Rattle.uv_records.specs.Names.{unbound}
-use Rattle.uv_model.specs.After.{after}
-use Rattle.uv_tale.specs.Tale.{told_name}
-use Rattle.uv_key.specs.Codes.{number_code}
-use Rattle.uv_key.proofs.Loops.{piece_there, piece_turn, list_end}
-use Rattle.uv_state_key.specs.Computed.{by_of}
+use Rattle.uv_state_key.proofs.Names.{◌<◌, ◌++◌, List, ℕ, length, ap, ◌∙◌, arith, Named, unbound, after, told_name, number_code, piece_there, piece_turn, list_end, by_of}
 use Rattle.uv_state_key.specs.TaleKey.{told_code}
 use Rattle.uv_state_key.proofs.Lengths.{counted}
 use Rattle.uv_state_key.proofs.TaleCodes.{list_code_map}

@@ -1,9 +1,4 @@
-use Rattle.std.proofs.Common.{◌≡◌, ◌++◌, take}
-use Rattle.std.specs.List.{flat_map}
-use Rattle.uv_records.specs.declared.named.Named.{Named}
-use Rattle.uv_model.specs.After.{after}
-use Rattle.uv_tale.specs.Tale.{told_name}
-use Rattle.uv_state_key.specs.Computed.{by_of}
+use Rattle.uv_state_key.proofs.Names.{◌≡◌, ◌++◌, take, flat_map, Named, after, told_name, by_of}
 use Rattle.uv_state_key.specs.TaleKey.{told_code}
 use Rattle.uv_state_key.proofs.tale.push_told_names.Given as goal
 

@@ -1,4 +1,4 @@
-use Rattle.std.proofs.Common.{rules}
+use Rattle.uv_text.proofs.Names.{rules}
 use Rattle.uv_text.proofs.Showing.{is_image}
 use Rattle.uv_text.proofs.image.image_text.Goals as goal
 

@@ -1,6 +1,4 @@
-use Rattle.std.proofs.lemmas.Result.{err_from_is_err_and}
-use Rattle.uv_script.specs.Writes.{CutShort}
-use Rattle.uv_text.proofs.Names.{◌++◌, ap, subst, ◌∙◌, arith, place_text}
+use Rattle.uv_text.proofs.Names.{err_from_is_err_and, CutShort, ◌++◌, ap, subst, ◌∙◌, arith, place_text}
 use Rattle.uv_text.proofs.Cuts.{each_cut}
 use Rattle.uv_text.proofs.Pieces.{each_turn, each_end}
 use Rattle.uv_text.proofs.image.push_each_place.Goals as goal

@@ -1,7 +1,5 @@
-use Rattle.std.proofs.Common.{rules, append_assoc, ◌++◌, codes, arith}
-use Rattle.uv_text.specs.Image.{ends_line, or_dash}
-use Rattle.std.proofs.lemmas.Result.{err_from_is_err_and}
-use Rattle.uv_script.proofs.Writing.{begins_itself, begins_more}
+use Rattle.uv_text.proofs.Names.{rules, append_assoc, ◌++◌, codes, arith, or_dash, err_from_is_err_and, begins_itself, begins_more}
+use Rattle.uv_text.specs.Image.{ends_line}
 use Rattle.uv_text.proofs.Cuts.{cut}
 use Rattle.uv_text.proofs.image.push_ends.Goals as goal
 

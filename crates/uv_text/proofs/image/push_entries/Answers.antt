@@ -1,8 +1,4 @@
-use Rattle.std.proofs.lemmas.Result.{err_from_is_err_and}
-use Rattle.uv_script.specs.Writes.{CutShort}
-use Rattle.uv_text.proofs.Names.{arith, subst, codes}
-use Rattle.uv_text.specs.Image.{entry_text}
-use Rattle.uv_text.specs.State.{numbered}
+use Rattle.uv_text.proofs.Names.{err_from_is_err_and, CutShort, arith, subst, codes, entry_text, numbered}
 use Rattle.uv_text.proofs.Cuts.{each_cut}
 use Rattle.uv_text.proofs.image.push_entries.Goals as goal
 

@@ -1,4 +1,4 @@
-use Rattle.std.proofs.Common.{rules, append_assoc}
+use Rattle.uv_text.proofs.Names.{rules, append_assoc}
 use Rattle.uv_text.specs.Image.{heap_line}
 use Rattle.uv_text.proofs.image.push_heap.Goals as goal
 

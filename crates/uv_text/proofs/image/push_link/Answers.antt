@@ -1,9 +1,6 @@
-use Rattle.std.proofs.Common.{◌++◌, append_assoc, codes, arith}
-use Rattle.std.proofs.lemmas.Result.{err_from_is_err_and}
-use Rattle.uv_script.proofs.Writing.{begins_itself, begins_more}
-use Rattle.uv_text.specs.Image.{or_dash, link_line}
+use Rattle.uv_text.proofs.Names.{◌++◌, append_assoc, codes, arith, err_from_is_err_and, begins_itself, begins_more, or_dash, numbered}
+use Rattle.uv_text.specs.Image.{link_line}
 use Rattle.uv_text.proofs.Cuts.{cut}
-use Rattle.uv_text.specs.State.{numbered}
 use Rattle.uv_text.proofs.image.push_link.Goals as goal
 
 pub returns-in_err-push_or_dash-2 : goal.returns-in_err-push_or_dash-2

@@ -1,6 +1,5 @@
-use Rattle.uv_text.proofs.Names.{arith, named_ends}
+use Rattle.uv_text.proofs.Names.{arith, named_ends, err_from_is_err_and}
 use Rattle.uv_text.proofs.Pieces.{each_end}
-use Rattle.std.proofs.lemmas.Result.{err_from_is_err_and}
 use Rattle.uv_text.proofs.Cuts.{each_cut}
 use Rattle.uv_text.proofs.image.push_lists.Goals as goal
 

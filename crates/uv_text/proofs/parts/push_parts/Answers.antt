@@ -1,8 +1,7 @@
-use Rattle.std.proofs.Common.{◌≡◌, ◌++◌, ap, ◌∙◌, arith}
-use Rattle.uv_text.specs.Parts.{parts_from, in_parts}
+use Rattle.uv_text.proofs.Names.{◌≡◌, ◌++◌, ap, ◌∙◌, arith, parts_from, err_from_is_err_and}
+use Rattle.uv_text.specs.Parts.{in_parts}
 use Rattle.uv_text.proofs.Pieces.{one_more}
 use Rattle.uv_text.proofs.Wholes.{parts_more}
-use Rattle.std.proofs.lemmas.Result.{err_from_is_err_and}
 use Rattle.uv_text.proofs.Cuts.{turn_cut}
 use Rattle.uv_text.proofs.parts.push_parts.Goals as goal
 

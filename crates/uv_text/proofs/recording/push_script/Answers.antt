@@ -1,7 +1,5 @@
-use Rattle.std.proofs.Common.{◌++◌, append_assoc, codes, arith}
-use Rattle.std.proofs.lemmas.Result.{err_from_is_err_and}
-use Rattle.uv_script.proofs.Writing.{begins_itself, begins_more}
-use Rattle.uv_text.specs.Recording.{first_line, script_part}
+use Rattle.uv_text.proofs.Names.{◌++◌, append_assoc, codes, arith, err_from_is_err_and, begins_itself, begins_more, first_line}
+use Rattle.uv_text.specs.Recording.{script_part}
 use Rattle.uv_text.proofs.Cuts.{cut}
 use Rattle.uv_text.proofs.recording.push_script.Goals as goal
 

@@ -1,5 +1,4 @@
-use Rattle.uv_text.proofs.Names.{◌<◌, ◌≤◌, ◌^◌, arith, append_assoc}
-use Rattle.std.proofs.lemmas.Fmt.{decimal_step}
+use Rattle.uv_text.proofs.Names.{◌<◌, ◌≤◌, ◌^◌, arith, append_assoc, decimal_step}
 use Rattle.uv_text.proofs.Digits.{length-last_digit}
 use Rattle.uv_text.proofs.room.+put_digits.Goals as goal
 

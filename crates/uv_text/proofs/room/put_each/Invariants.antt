@@ -1,5 +1,4 @@
-use Rattle.uv_text.proofs.Names.{◌≡◌, ◌++◌, take}
-use Rattle.std.proofs.Common.{vec_len, vec_capacity, ◌+◌}
+use Rattle.uv_text.proofs.Names.{◌≡◌, ◌++◌, take, vec_len, vec_capacity, ◌+◌}
 use Rattle.uv_text.proofs.room.put_each.Given as goal
 
 -- the letters so far stand behind the text

@@ -1,7 +1,5 @@
-use Rattle.std.proofs.Common.{rules, ◌≡◌, ◌++◌, append_assoc, arith}
-use Rattle.std.proofs.lemmas.Result.{err_from_is_err_and}
-use Rattle.uv_script.proofs.Writing.{begins_itself, begins_more, writing}
-use Rattle.uv_text.specs.State.{members_line, before_poll}
+use Rattle.uv_text.proofs.Names.{rules, ◌≡◌, ◌++◌, append_assoc, arith, err_from_is_err_and, begins_itself, begins_more, writing, members_line}
+use Rattle.uv_text.specs.State.{before_poll}
 use Rattle.uv_model.specs.After.{after}
 use Rattle.uv_records.specs.declared.lists.ListName.TheVariants as list
 use Rattle.uv_text.proofs.Cuts.{cut}

@@ -1,8 +1,4 @@
-use Rattle.std.proofs.Common.{rules, ◌≡◌, ◌++◌, append_assoc, codes, arith}
-use Rattle.std.proofs.lemmas.Result.{err_from_is_err_and}
-use Rattle.uv_script.proofs.Writing.{begins_itself, begins_more, writing}
-use Rattle.uv_script.specs.Text.{name_text}
-use Rattle.uv_text.specs.State.{numbered, callback_word}
+use Rattle.uv_text.proofs.Names.{rules, ◌≡◌, ◌++◌, append_assoc, codes, arith, err_from_is_err_and, begins_itself, begins_more, writing, name_text, numbered, callback_word}
 use Rattle.uv_text.proofs.Cuts.{cut}
 use Rattle.uv_text.proofs.state.push_body.Goals as goal
 

@@ -1,8 +1,4 @@
-use Rattle.std.proofs.Common.{rules, append_assoc, ◌≡◌, ◌++◌, codes, arith, subst}
-use Rattle.std.proofs.lemmas.Result.{err_from_is_err_and}
-use Rattle.uv_script.proofs.Writing.{Begins, begins_itself, begins_more, cut_before, writing}
-use Rattle.uv_text.specs.State.{front_text, kind_text, record_text}
-use Rattle.uv_text.specs.Trace.{id_text}
+use Rattle.uv_text.proofs.Names.{rules, append_assoc, ◌≡◌, ◌++◌, codes, arith, subst, err_from_is_err_and, Begins, begins_itself, begins_more, cut_before, writing, front_text, kind_text, record_text, id_text}
 use Rattle.uv_text.proofs.Cuts.{cut}
 use Rattle.uv_text.proofs.state.push_handle_line.Goals as goal
 

@@ -1,7 +1,6 @@
-use Rattle.uv_text.proofs.Names.{◌∙◌, arith, member_text}
+use Rattle.uv_text.proofs.Names.{◌∙◌, arith, member_text, err_from_is_err_and}
 use Rattle.uv_model.specs.After.{after}
 use Rattle.uv_text.proofs.Pieces.{each_turn, each_end}
-use Rattle.std.proofs.lemmas.Result.{err_from_is_err_and}
 use Rattle.uv_text.proofs.Cuts.{each_cut}
 use Rattle.uv_text.proofs.state.push_ids.Goals as goal
 

@@ -1,7 +1,4 @@
-use Rattle.std.proofs.lemmas.Result.{err_from_is_err_and}
-use Rattle.uv_script.specs.Writes.{CutShort}
-use Rattle.uv_text.proofs.Names.{arith, subst, numbered}
-use Rattle.std.proofs.Common.{codes}
+use Rattle.uv_text.proofs.Names.{err_from_is_err_and, CutShort, arith, subst, numbered, codes}
 use Rattle.uv_text.proofs.Cuts.{each_cut}
 use Rattle.uv_text.proofs.state.push_numbers.Goals as goal
 

@@ -1,5 +1,4 @@
-use Rattle.uv_text.proofs.Names.{◌≡◌, ◌++◌, take, flat_map, numbered}
-use Rattle.std.proofs.Common.{codes}
+use Rattle.uv_text.proofs.Names.{◌≡◌, ◌++◌, take, flat_map, numbered, codes}
 use Rattle.uv_text.proofs.state.push_numbers.Given as goal
 
 -- those before this one

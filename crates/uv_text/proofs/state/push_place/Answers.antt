@@ -1,5 +1,4 @@
-use Rattle.std.proofs.Common.{rules, append_assoc}
-use Rattle.uv_script.proofs.Writing.{writing}
+use Rattle.uv_text.proofs.Names.{rules, append_assoc, writing}
 use Rattle.uv_text.specs.State.{place_line}
 use Rattle.uv_text.proofs.state.push_place.Goals as goal
 

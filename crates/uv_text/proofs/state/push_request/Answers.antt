@@ -1,10 +1,5 @@
-use Rattle.std.proofs.Common.{rules, ◌∙◌, subst, append_assoc, ◌≡◌, ◌++◌, codes, arith}
-use Rattle.std.proofs.lemmas.Result.{err_from_is_err_and}
-use Rattle.uv_script.proofs.Writing.{begins_itself, begins_more, writing}
-use Rattle.uv_script.specs.Text.{name_text}
-use Rattle.uv_script.specs.Writes.{CutShort}
+use Rattle.uv_text.proofs.Names.{rules, ◌∙◌, subst, append_assoc, ◌≡◌, ◌++◌, codes, arith, err_from_is_err_and, begins_itself, begins_more, writing, name_text, CutShort, numbered, outcome_text}
 use Rattle.uv_text.proofs.Cuts.{cut}
-use Rattle.uv_text.specs.State.{numbered, outcome_text}
 use Rattle.uv_text.proofs.state.push_request.Goals as goal
 
 pub returns-in_err-push_outcome : goal.returns-in_err-push_outcome

@@ -1,7 +1,4 @@
-use Rattle.std.proofs.Common.{rules, append_assoc, ◌++◌, codes, arith}
-use Rattle.std.proofs.lemmas.Result.{err_from_is_err_and}
-use Rattle.uv_script.proofs.Writing.{begins_itself, begins_more}
-use Rattle.uv_text.specs.Trace.{id_text}
+use Rattle.uv_text.proofs.Names.{rules, append_assoc, ◌++◌, codes, arith, err_from_is_err_and, begins_itself, begins_more, id_text}
 use Rattle.uv_text.proofs.Cuts.{cut}
 use Rattle.uv_text.proofs.state.push_request_line.Goals as goal
 

@@ -1,6 +1,4 @@
-use Rattle.std.proofs.Common.{rules, ◌≡◌, ◌++◌, append_assoc, codes, arith}
-use Rattle.uv_script.proofs.Writing.{writing}
-use Rattle.uv_text.specs.State.{numbered}
+use Rattle.uv_text.proofs.Names.{rules, ◌≡◌, ◌++◌, append_assoc, codes, arith, writing, numbered}
 use Rattle.uv_text.proofs.state.push_run.Goals as goal
 
 pub returns : goal.returns

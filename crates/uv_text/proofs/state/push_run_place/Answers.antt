@@ -1,8 +1,5 @@
-use Rattle.std.proofs.Common.{rules, append_assoc, ◌++◌, codes, arith}
-use Rattle.uv_text.specs.State.{place_line, numbered, stage_text}
-use Rattle.std.proofs.lemmas.Result.{err_from_is_err_and}
-use Rattle.uv_script.proofs.Writing.{begins_itself, begins_more}
-use Rattle.uv_ids.specs.Words.{mode_word}
+use Rattle.uv_text.proofs.Names.{rules, append_assoc, ◌++◌, codes, arith, numbered, stage_text, err_from_is_err_and, begins_itself, begins_more, mode_word}
+use Rattle.uv_text.specs.State.{place_line}
 use Rattle.uv_text.proofs.Cuts.{cut}
 use Rattle.uv_text.proofs.state.push_run_place.Goals as goal
 

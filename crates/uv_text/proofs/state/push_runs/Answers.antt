@@ -1,8 +1,6 @@
-use Rattle.uv_text.proofs.Names.{◌≡◌, ◌++◌, length, Option, ap, ◌∙◌, arith, Id, run_text, runs_upto, subst, run_by}
+use Rattle.uv_text.proofs.Names.{◌≡◌, ◌++◌, length, Option, ap, ◌∙◌, arith, Id, run_text, runs_upto, subst, run_by, err_from_is_err_and, CutShort}
 use Rattle.uv_model.specs.After.{after}
 use Rattle.uv_text.proofs.Pieces.{one_more, runs_upto-more}
-use Rattle.std.proofs.lemmas.Result.{err_from_is_err_and}
-use Rattle.uv_script.specs.Writes.{CutShort}
 use Rattle.uv_text.proofs.Cuts.{turn_cut}
 use Rattle.uv_text.proofs.state.push_runs.Goals as goal
 

@@ -1,4 +1,4 @@
-use Rattle.std.proofs.Common.{rules, append_assoc}
+use Rattle.uv_text.proofs.Names.{rules, append_assoc}
 use Rattle.uv_text.specs.State.{unused_line}
 use Rattle.uv_text.proofs.state.push_unused.Goals as goal
 

@@ -1,6 +1,4 @@
-use Rattle.std.proofs.Common.{rules, ◌≡◌, ◌++◌, append_assoc, codes, arith}
-use Rattle.uv_script.proofs.Writing.{writing}
-use Rattle.uv_text.specs.Trace.{handle_text}
+use Rattle.uv_text.proofs.Names.{rules, ◌≡◌, ◌++◌, append_assoc, codes, arith, writing, handle_text}
 use Rattle.uv_text.proofs.trace.push_after.Goals as goal
 
 pub returns : goal.returns

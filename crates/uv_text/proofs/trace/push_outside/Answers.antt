@@ -1,8 +1,4 @@
-use Rattle.std.proofs.Common.{rules, ◌≡◌, ◌++◌, append_assoc, codes, arith, subst}
-use Rattle.std.proofs.lemmas.Result.{err_from_is_err_and}
-use Rattle.uv_script.proofs.Writing.{Begins, begins_itself, begins_more, cut_whole, writing}
-use Rattle.uv_text.specs.Trace.{answer_text, outside_text}
-use Rattle.uv_script.specs.Text.{name_text}
+use Rattle.uv_text.proofs.Names.{rules, ◌≡◌, ◌++◌, append_assoc, codes, arith, subst, err_from_is_err_and, Begins, begins_itself, begins_more, cut_whole, writing, answer_text, outside_text, name_text}
 use Rattle.uv_text.proofs.trace.push_outside.Goals as goal
 
 pub returns : goal.returns

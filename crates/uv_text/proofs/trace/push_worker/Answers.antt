@@ -1,5 +1,4 @@
-use Rattle.std.proofs.Common.{rules, ◌≡◌, ◌++◌, append_assoc, codes, arith}
-use Rattle.uv_script.proofs.Writing.{writing}
+use Rattle.uv_text.proofs.Names.{rules, ◌≡◌, ◌++◌, append_assoc, codes, arith, writing}
 use Rattle.std.specs.Fmt.{decimal}
 use Rattle.uv_text.proofs.trace.push_worker.Goals as goal
 

@@ -1,6 +1,4 @@
-use Rattle.std.proofs.Common.{rules, ◌≡◌, ◌++◌, append_assoc, codes, arith}
-use Rattle.std.specs.Prelude.{decimal, suc}
-use Rattle.uv_script.proofs.Writing.{writing}
+use Rattle.uv_text.proofs.Names.{rules, ◌≡◌, ◌++◌, append_assoc, codes, arith, decimal, suc, writing}
 use Rattle.uv_text.specs.Trace.{walk_part}
 use Rattle.uv_text.proofs.traced.push_walk_part.Goals as goal
 

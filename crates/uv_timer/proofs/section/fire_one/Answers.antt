@@ -1,4 +1,4 @@
-use Rattle.std.proofs.Common.{◌<◌, ◌^◌, ◌-◌, IfSome, sym, ap, ◌∙◌, subst}
+use Rattle.uv_timer.proofs.Names.{◌<◌, ◌^◌, ◌-◌, IfSome, sym, ap, ◌∙◌, subst}
 use Rattle.uv_timer.proofs.Firsts.{ready_is}
 use Rattle.uv_timer.proofs.Repeating.{firing_from, firing_due}
 use Rattle.uv_timer.proofs.section.fire_one.Goals as goal

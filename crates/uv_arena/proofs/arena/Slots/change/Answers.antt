@@ -1,6 +1,4 @@
-use Rattle.std.proofs.Common.{Some, sym, ap, ◌∙◌, subst}
-use Rattle.uv_arena.specs.Image.{IsSound, in_memory, edited}
-use Rattle.uv_arena.specs.Calls.{IsSet}
+use Rattle.uv_arena.proofs.ProofNames.{Some, sym, ap, ◌∙◌, subst, IsSound, in_memory, edited, IsSet}
 use Rattle.uv_arena.proofs.Changes.{changes}
 use Rattle.uv_arena.proofs.arena.Slots.change.Goals as goal
 

@@ -1,5 +1,4 @@
-use Rattle.std.proofs.Common.{length, sym, ap, ◌∙◌, subst}
-use Rattle.uv_arena.specs.Image.{Arena, Memory, memory_of, IsWithin}
+use Rattle.uv_arena.proofs.ProofNames.{length, sym, ap, ◌∙◌, subst, Arena, Memory, memory_of, IsWithin}
 use Rattle.uv_arena.proofs.Memories.{length_edited}
 use Rattle.uv_arena.proofs.arena.Slots.edit_and_put.Goals as goal
 

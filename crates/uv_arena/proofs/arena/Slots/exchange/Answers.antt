@@ -1,6 +1,4 @@
-use Rattle.std.proofs.Common.{sym, ◌∙◌, subst}
-use Rattle.std.specs.List.{swap}
-use Rattle.uv_arena.specs.Image.{Image, IsSound, memory_of}
+use Rattle.uv_arena.proofs.ProofNames.{sym, ◌∙◌, subst, swap, Image, IsSound, memory_of}
 use Rattle.uv_arena.proofs.Splices.{spliced_sound}
 use Rattle.uv_arena.proofs.arena.Slots.exchange.Goals as goal
 

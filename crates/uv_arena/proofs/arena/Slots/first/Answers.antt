@@ -1,6 +1,4 @@
-use Rattle.std.proofs.Common.{sym, ap, ◌∙◌, subst}
-use Rattle.uv_arena.specs.Image.{head_at}
-use Rattle.uv_arena.specs.Calls.{IsFirst}
+use Rattle.uv_arena.proofs.ProofNames.{sym, ap, ◌∙◌, subst, head_at, IsFirst}
 use Rattle.uv_arena.proofs.Readings.{first_listed}
 use Rattle.uv_arena.proofs.arena.Slots.first.Goals as goal
 

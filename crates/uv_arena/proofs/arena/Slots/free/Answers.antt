@@ -1,6 +1,4 @@
-use Rattle.std.proofs.Common.{◌+◌, false, None, length, sym, ap, ◌∙◌, subst}
-use Rattle.uv_arena.specs.Image.{IsSound, IsWithin, in_memory, edited, put_in}
-use Rattle.uv_arena.specs.Calls.{IsRemoved}
+use Rattle.uv_arena.proofs.ProofNames.{◌+◌, false, None, length, sym, ap, ◌∙◌, subst, IsSound, IsWithin, in_memory, edited, put_in, IsRemoved}
 use Rattle.uv_arena.proofs.Removals.{frees}
 use Rattle.uv_arena.proofs.arena.Slots.free.Goals as goal
 

@@ -1,8 +1,4 @@
-use Rattle.std.proofs.Common.{Some, false, length, sym, ◌∙◌, subst}
-use Rattle.uv_records.specs.declared.slot.Slot.{Slot}
-use Rattle.uv_arena.specs.declared.links.ChainPlace.{ChainPlace}
-use Rattle.uv_arena.specs.Image.{IsSound, IsWithin, in_memory, edited, slot_at, taken_out}
-use Rattle.uv_arena.specs.Calls.{IsInserted}
+use Rattle.uv_arena.proofs.ProofNames.{Some, false, length, sym, ◌∙◌, subst, Slot, ChainPlace, IsSound, IsWithin, in_memory, edited, slot_at, taken_out, IsInserted}
 use Rattle.uv_arena.proofs.Changes.{reuses}
 use Rattle.uv_arena.proofs.arena.Slots.insert_free.Goals as goal
 

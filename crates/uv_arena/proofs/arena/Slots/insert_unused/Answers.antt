@@ -1,6 +1,4 @@
-use Rattle.std.proofs.Common.{true, length, sym, ap, ◌∙◌, subst, arith}
-use Rattle.uv_arena.specs.Image.{Image, IsSound, in_memory, grown}
-use Rattle.uv_arena.specs.Calls.{IsInserted}
+use Rattle.uv_arena.proofs.ProofNames.{true, length, sym, ap, ◌∙◌, subst, arith, Image, IsSound, in_memory, grown, IsInserted}
 use Rattle.uv_arena.proofs.Changes.{grows}
 use Rattle.uv_arena.proofs.arena.Slots.insert_unused.Goals as goal
 

@@ -1,6 +1,4 @@
-use Rattle.std.proofs.Common.{◌<◌, ◌≤◌, length, sym, ap, ◌∙◌, arith}
-use Rattle.uv_arena.specs.declared.links.Links.{Links}
-use Rattle.uv_arena.specs.Image.{Arena, links_at}
+use Rattle.uv_arena.proofs.ProofNames.{◌<◌, ◌≤◌, length, sym, ap, ◌∙◌, arith, Links, Arena, links_at}
 use Rattle.uv_arena.proofs.Freed.{past_free, other_free, free_by}
 use Rattle.uv_arena.proofs.arena.Slots.is_free.Goals as goal
 

@@ -1,6 +1,4 @@
-use Rattle.std.proofs.Common.{sym, ap, ◌∙◌, subst}
-use Rattle.uv_arena.specs.Image.{tail_at}
-use Rattle.uv_arena.specs.Calls.{IsLast}
+use Rattle.uv_arena.proofs.ProofNames.{sym, ap, ◌∙◌, subst, tail_at, IsLast}
 use Rattle.uv_arena.proofs.Readings.{last_listed, last_missing}
 use Rattle.uv_arena.proofs.arena.Slots.last.Goals as goal
 

@@ -1,7 +1,5 @@
-use Rattle.std.proofs.Common.{sym, subst, arith, ◌∙◌}
+use Rattle.uv_arena.proofs.ProofNames.{sym, subst, arith, ◌∙◌, Cell, fresh_image, IsSound}
 use Rattle.uv_raw.specs.Pieced.{Pieced}
-use Rattle.uv_arena.specs.declared.links.Cell.{Cell}
-use Rattle.uv_arena.specs.Image.{fresh_image, IsSound}
 use Rattle.uv_arena.proofs.Fresh.{fresh_sound}
 use Rattle.uv_arena.proofs.arena.Slots.new.Goals as goal
 

@@ -1,7 +1,4 @@
-use Rattle.std.proofs.Common.{Some, sym, ap, ◌∙◌, subst}
-use Rattle.uv_ids.specs.declared.id.Id.{Id}
-use Rattle.uv_arena.specs.declared.links.Links.{Links}
-use Rattle.uv_arena.specs.Calls.{IsListed, slot_of}
+use Rattle.uv_arena.proofs.ProofNames.{Some, sym, ap, ◌∙◌, subst, Id, Links, IsListed, slot_of}
 use Rattle.uv_arena.proofs.Readings.{neighbours}
 use Rattle.uv_arena.proofs.arena.Slots.next.Goals as goal
 

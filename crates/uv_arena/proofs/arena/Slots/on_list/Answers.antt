@@ -1,4 +1,4 @@
-use Rattle.std.proofs.Common.{sym, ◌∙◌}
+use Rattle.uv_arena.proofs.ProofNames.{sym, ◌∙◌}
 use Rattle.uv_arena.proofs.Readings.{apart_from}
 use Rattle.uv_arena.proofs.arena.Slots.on_list.Goals as goal
 

@@ -1,6 +1,4 @@
-use Rattle.std.proofs.Common.{[], ◌∷◌, ◌++◌, length, sym, ap, ◌∙◌, subst}
-use Rattle.uv_arena.specs.Image.{IsSound, IsWithin, back_place, in_memory, put_in, members}
-use Rattle.uv_arena.specs.Calls.{IsPushed}
+use Rattle.uv_arena.proofs.ProofNames.{[], ◌∷◌, ◌++◌, length, sym, ap, ◌∙◌, subst, IsSound, IsWithin, back_place, in_memory, put_in, members, IsPushed}
 use Rattle.uv_arena.proofs.Pushes.{put_back}
 use Rattle.uv_arena.proofs.arena.Slots.push_back.Goals as goal
 

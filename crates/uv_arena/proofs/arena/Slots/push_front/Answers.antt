@@ -1,6 +1,4 @@
-use Rattle.std.proofs.Common.{◌∷◌, length, sym, ap, ◌∙◌, subst}
-use Rattle.uv_arena.specs.Image.{IsSound, IsWithin, front_place, in_memory, put_in, members}
-use Rattle.uv_arena.specs.Calls.{IsPushed}
+use Rattle.uv_arena.proofs.ProofNames.{◌∷◌, length, sym, ap, ◌∙◌, subst, IsSound, IsWithin, front_place, in_memory, put_in, members, IsPushed}
 use Rattle.uv_arena.proofs.Pushes.{put_front}
 use Rattle.uv_arena.proofs.arena.Slots.push_front.Goals as goal
 

@@ -1,5 +1,4 @@
-use Rattle.std.proofs.Common.{true, sym, subst}
-use Rattle.uv_arena.specs.Calls.{IsRemoved}
+use Rattle.uv_arena.proofs.ProofNames.{true, sym, subst, IsRemoved}
 use Rattle.uv_arena.proofs.Removals.{retires}
 use Rattle.uv_arena.proofs.arena.Slots.retire.Goals as goal
 

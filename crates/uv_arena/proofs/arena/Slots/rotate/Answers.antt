@@ -1,8 +1,4 @@
-use Rattle.std.proofs.Common.{◌≡◌, None, length, sym, ap, ◌∙◌, subst}
-use Rattle.uv_arena.specs.declared.links.ChainPlace.{ChainPlace}
-use Rattle.uv_arena.specs.declared.links.Links.{Links}
-use Rattle.uv_arena.specs.Image.{IsSound, IsWithin, back_place, in_memory, put_in, taken_out}
-use Rattle.uv_arena.specs.Calls.{IsRotated}
+use Rattle.uv_arena.proofs.ProofNames.{◌≡◌, None, length, sym, ap, ◌∙◌, subst, ChainPlace, Links, IsSound, IsWithin, back_place, in_memory, put_in, taken_out, IsRotated}
 use Rattle.uv_arena.proofs.Pushes.{front_of, back_of, stands_first, turned}
 use Rattle.uv_arena.proofs.arena.Slots.rotate.Goals as goal
 

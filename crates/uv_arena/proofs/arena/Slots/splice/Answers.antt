@@ -1,5 +1,4 @@
-use Rattle.std.proofs.Common.{sym, subst}
-use Rattle.uv_arena.specs.Calls.{IsSpliced}
+use Rattle.uv_arena.proofs.ProofNames.{sym, subst, IsSpliced}
 use Rattle.uv_arena.proofs.Splices.{splices}
 use Rattle.uv_arena.proofs.arena.Slots.splice.Goals as goal
 

@@ -1,6 +1,4 @@
-use Rattle.std.proofs.Common.{◌<◌, length, sym, ap, ◌∙◌, subst}
-use Rattle.uv_arena.specs.Chains.{loose}
-use Rattle.uv_arena.specs.Image.{Arena, Memory, memory_of}
+use Rattle.uv_arena.proofs.ProofNames.{◌<◌, length, sym, ap, ◌∙◌, subst, loose, Arena, Memory, memory_of}
 use Rattle.uv_arena.proofs.Memories.{length_relinked}
 use Rattle.uv_arena.proofs.arena.Slots.take_and_edit.Goals as goal
 

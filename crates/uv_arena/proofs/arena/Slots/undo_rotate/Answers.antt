@@ -1,7 +1,4 @@
-use Rattle.std.proofs.Common.{◌≡◌, Some, length, sym, ap, ◌∙◌, subst}
-use Rattle.uv_arena.specs.Chains.{loose}
-use Rattle.uv_arena.specs.Image.{IsWithin, front_place, in_memory, place_at, put_in, tail_at, taken_out}
-use Rattle.uv_arena.specs.Undo.{front_again, push_undone, unlink_undone, slot_or_first}
+use Rattle.uv_arena.proofs.ProofNames.{◌≡◌, Some, length, sym, ap, ◌∙◌, subst, loose, IsWithin, front_place, in_memory, place_at, put_in, tail_at, taken_out, front_again, push_undone, unlink_undone, slot_or_first}
 use Rattle.uv_arena.proofs.Memories.{length_relinked}
 use Rattle.uv_arena.proofs.arena.Slots.undo_rotate.Goals as goal
 

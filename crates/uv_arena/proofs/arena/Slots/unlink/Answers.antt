@@ -1,6 +1,4 @@
-use Rattle.std.proofs.Common.{length, sym, subst}
-use Rattle.uv_arena.specs.Image.{IsSound, IsWithin, in_memory, taken_out}
-use Rattle.uv_arena.specs.Calls.{IsUnlinked}
+use Rattle.uv_arena.proofs.ProofNames.{length, sym, subst, IsSound, IsWithin, in_memory, taken_out, IsUnlinked}
 use Rattle.uv_arena.proofs.Pushes.{take_off}
 use Rattle.uv_arena.proofs.arena.Slots.unlink.Goals as goal
 

@@ -1,4 +1,4 @@
-use Rattle.std.specs.Prelude.{is_some}
+use Rattle.uv_arena.proofs.ProofNames.{is_some}
 use Rattle.uv_arena.proofs.Held.{any_counted}
 use Rattle.uv_arena.proofs.cells.Cells.holds_any.Goals as goal
 

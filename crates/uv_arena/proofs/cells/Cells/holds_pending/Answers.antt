@@ -1,4 +1,4 @@
-use Rattle.uv_records.specs.Count.{pends_in}
+use Rattle.uv_arena.proofs.ProofNames.{pends_in}
 use Rattle.uv_arena.proofs.Held.{any_counted}
 use Rattle.uv_arena.proofs.cells.Cells.holds_pending.Goals as goal
 

@@ -1,7 +1,4 @@
-use Rattle.std.proofs.Common.{arith}
-use Rattle.std.specs.Prelude.{is_some}
-use Rattle.uv_records.specs.Count.{pends_in}
-use Rattle.uv_arena.specs.Holding.{count_of}
+use Rattle.uv_arena.proofs.ProofNames.{arith, is_some, pends_in, count_of}
 use Rattle.uv_arena.proofs.Held.{count_push}
 use Rattle.uv_arena.proofs.cells.Cells.pop.Goals as goal
 

@@ -1,6 +1,4 @@
-use Rattle.std.proofs.Common.{Bool, cond, refl, ap, ◌∙◌}
-use Rattle.uv_raw.specs.Row.{row}
-use Rattle.uv_arena.specs.declared.links.Cell.{Cell}
+use Rattle.uv_arena.proofs.ProofNames.{Bool, cond, refl, ap, ◌∙◌, row, Cell}
 use Rattle.uv_arena.specs.declared.memory.Memory.{Memory}
 use Rattle.uv_arena.proofs.Puts.{put_at}
 use Rattle.uv_arena.proofs.memory.Memory.edit.Goals as goal

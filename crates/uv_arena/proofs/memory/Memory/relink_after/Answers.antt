@@ -1,5 +1,4 @@
-use Rattle.std.proofs.Common.{◌∙◌}
-use Rattle.uv_arena.specs.Image.{memory_of}
+use Rattle.uv_arena.proofs.ProofNames.{◌∙◌, memory_of}
 use Rattle.uv_arena.proofs.Puts.{after_written, tail_written}
 use Rattle.uv_arena.proofs.memory.Memory.relink_after.Goals as goal
 

@@ -1,5 +1,4 @@
-use Rattle.std.proofs.Common.{◌∙◌}
-use Rattle.uv_arena.specs.Image.{memory_of}
+use Rattle.uv_arena.proofs.ProofNames.{◌∙◌, memory_of}
 use Rattle.uv_arena.proofs.Puts.{before_written, head_written}
 use Rattle.uv_arena.proofs.memory.Memory.relink_before.Goals as goal
 

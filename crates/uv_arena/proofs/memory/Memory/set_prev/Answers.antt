@@ -1,8 +1,5 @@
-use Rattle.std.proofs.Common.{Bool, cond, refl, ap, ◌∙◌}
-use Rattle.uv_raw.specs.Row.{row}
-use Rattle.uv_arena.specs.declared.links.Cell.{Cell}
+use Rattle.uv_arena.proofs.ProofNames.{Bool, cond, refl, ap, ◌∙◌, row, Cell, with_links}
 use Rattle.uv_arena.specs.declared.memory.Memory.{Memory}
-use Rattle.uv_arena.specs.Image.{with_links}
 use Rattle.uv_arena.proofs.Puts.{put_at}
 use Rattle.uv_arena.proofs.memory.Memory.set_prev.Goals as goal
 

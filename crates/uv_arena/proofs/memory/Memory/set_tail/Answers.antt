@@ -1,5 +1,4 @@
-use Rattle.std.proofs.Common.{Bool, cond, length, ◌<◌, refl, arith}
-use Rattle.uv_records.specs.declared.lists.Ends.{Ends}
+use Rattle.uv_arena.proofs.ProofNames.{Bool, cond, length, ◌<◌, refl, arith, Ends}
 use Rattle.uv_arena.proofs.Puts.{put_ends}
 use Rattle.uv_arena.proofs.memory.Memory.set_tail.Goals as goal
 

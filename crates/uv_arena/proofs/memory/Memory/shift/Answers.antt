@@ -1,7 +1,4 @@
-use Rattle.std.proofs.Common.{◌≡◌, ◌<◌, cond, eqb, length, sym, ap, ◌∙◌, subst}
-use Rattle.uv_raw.specs.Row.{row}
-use Rattle.uv_arena.specs.Chains.{is_at, none_or, link, loose}
-use Rattle.uv_arena.specs.Image.{Memory, IsBelow, IsWithin, memory_of, with_links, with_cells, with_ends, put_in, taken_out}
+use Rattle.uv_arena.proofs.ProofNames.{◌≡◌, ◌<◌, cond, eqb, length, sym, ap, ◌∙◌, subst, row, is_at, none_or, link, loose, Memory, IsBelow, IsWithin, memory_of, with_links, with_cells, with_ends, put_in, taken_out}
 use Rattle.uv_arena.proofs.Each.{length-each}
 use Rattle.uv_arena.proofs.Puts.{cells_joined, ends_joined}
 use Rattle.uv_arena.proofs.Memories.{written_once}

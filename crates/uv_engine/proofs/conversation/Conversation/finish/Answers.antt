@@ -1,4 +1,4 @@
-use Rattle.std.proofs.lemmas.Result.{err_from_is_err_and}
+use Rattle.uv_engine.proofs.Names.{err_from_is_err_and}
 use Rattle.uv_engine.proofs.Gathers.{short_of_cut}
 use Rattle.uv_engine.proofs.conversation.Conversation.finish.Goals as goal
 

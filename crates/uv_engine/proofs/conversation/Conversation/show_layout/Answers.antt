@@ -1,5 +1,4 @@
-use Rattle.uv_engine.proofs.Names.{err_from_is_err_and, state_text, layout_whole}
-use Rattle.uv_text.specs.Image.{layout_text}
+use Rattle.uv_engine.proofs.Names.{err_from_is_err_and, state_text, layout_whole, layout_text}
 use Rattle.uv_engine.proofs.Gathers.{gathered_none, cut_by, gathers_same, gathers_then}
 use Rattle.uv_engine.proofs.conversation.Conversation.show_layout.Goals as goal
 

@@ -1,4 +1,4 @@
-use Rattle.uv_text.proofs.Wholes.{recording_whole}
+use Rattle.uv_engine.proofs.Names.{recording_whole}
 use Rattle.uv_engine.proofs.Gathers.{gathers_same}
 use Rattle.uv_engine.proofs.conversation.Conversation.show_recording.Goals as goal
 

@@ -69,9 +69,7 @@ lines-preserved g c = record {
       can_write (can_answer before asks other (c.in_ok-answer.ensures.text tells) c.in_ok-answer.ensures.session)
       (c.in_ok-spill.ensures.text tells);
   budget = λ reads. omega (arith, c.lines.invariant.budget reads, c.in_ok-asked.ensures.budget reads);
-  given = λ few.
-      let same = c.lines.invariant.given few in
-      omega (arith, same, c.in_ok-asked.ensures.given (omega (arith, same, few)));
+  given = grind arith;
   none_read_failed = c.in_ok-asked.ensures.reader ∙ c.lines.invariant.none_read_failed;
   none_write_failed = grind arith;
 }

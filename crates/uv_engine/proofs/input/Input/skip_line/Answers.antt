@@ -3,9 +3,7 @@ use Rattle.uv_engine.proofs.Buffers.{IsPassed, passed_ahead, rest_fed, rest_last
 use Rattle.uv_engine.proofs.input.Input.skip_line.Goals as goal
 
 pub returns-then-skip_ahead-clause-line : goal.returns-then-skip_ahead-clause-line
-returns-then-skip_ahead-clause-line g c = λ reads.
-    rest_fed _ _ _ _ (c.reads.invariant.passed reads) c.reads.invariant.part c.skip_ahead.ensures.part
-    (rw c.if-skip_ahead.true at c.skip_ahead.ensures.line)
+returns-then-skip_ahead-clause-line g c = grind (arith, rest_fed)
 
 pub returns-then-self-clause-line : goal.returns-then-self-clause-line
 returns-then-self-clause-line g c = λ reads.
@@ -14,10 +12,7 @@ returns-then-self-clause-line g c = λ reads.
 
 pub reads-preserved : goal.reads-preserved
 reads-preserved g c = record {
-  passed = λ reads.
-      subst (λ (xs : List ℕ). IsPassed (left c.args.self.now (g.R.Source.remaining c.args.reader.now)) xs) (c.in_ok-read_ahead.ensures.bytes reads)
-      (passed_ahead _ _ _ _ (c.reads.invariant.passed reads) c.reads.invariant.part c.skip_ahead.ensures.part
-      (rw c.if-skip_ahead.false at c.skip_ahead.ensures.line));
+  passed = grind (arith, passed_ahead);
   part = c.in_ok-read_ahead.ensures.part ∙ c.skip_ahead.ensures.part ∙ c.reads.invariant.part;
   end = c.in_ok-read_ahead.ensures.end;
   size_is =

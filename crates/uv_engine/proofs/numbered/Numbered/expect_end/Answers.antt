@@ -1,7 +1,6 @@
 use Rattle.uv_engine.proofs.Replays.{end_bad, end_read}
-use Rattle.std.proofs.lemmas.Result.{err_from_is_err_and}
+use Rattle.uv_engine.proofs.Names.{err_from_is_err_and, Whole}
 use Rattle.uv_engine.proofs.Recordings.{long_fails}
-use Rattle.uv_engine.specs.Recordings.{Whole}
 use Rattle.uv_engine.proofs.numbered.Numbered.expect_end.Goals as goal
 
 pub returns-in_default-clause-read : goal.returns-in_default-clause-read

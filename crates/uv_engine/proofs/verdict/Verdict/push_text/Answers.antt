@@ -1,5 +1,4 @@
-use Rattle.std.proofs.Common.{rules, append_assoc}
-use Rattle.uv_script.proofs.Writing.{writing}
+use Rattle.uv_engine.proofs.Names.{rules, append_assoc, writing}
 use Rattle.uv_engine.proofs.verdict.Verdict.push_text.Goals as goal
 
 pub returns-in_ok-push_number-in-Differs : goal.returns-in_ok-push_number-in-Differs

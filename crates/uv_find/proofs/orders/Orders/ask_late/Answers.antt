@@ -1,6 +1,4 @@
-use Rattle.std.proofs.Common.{◌≡◌, true}
-use Rattle.uv_find.specs.Holding.{asks_late}
-use Rattle.uv_find.specs.Spots.{rules_by}
+use Rattle.uv_find.proofs.Names.{◌≡◌, true, asks_late, rules_by}
 use Rattle.uv_find.proofs.Later.{later_forgets, later_holds}
 use Rattle.uv_find.proofs.orders.Orders.ask_late.Goals as goal
 

@@ -1,11 +1,5 @@
-use Rattle.std.proofs.Common.{arith, ◌≡◌, ◌∙◌, ap, ap₂, length, subst, sym}
-use Rattle.uv_model.proofs.Runs.{after-nil}
+use Rattle.uv_find.proofs.Names.{arith, ◌≡◌, ◌∙◌, ap, ap₂, length, subst, sym, after-nil, fresh, none_kept, first_left, AreBrief, MayForget, MayHold, rules_by, rules_of, asked_in}
 use Rattle.uv_model.specs.After.{after}
-use Rattle.uv_model.specs.State.{fresh}
-use Rattle.uv_find.specs.Kept.{none_kept}
-use Rattle.uv_find.specs.Orders.{first_left}
-use Rattle.uv_find.specs.Spots.{AreBrief, MayForget, MayHold, rules_by, rules_of}
-use Rattle.uv_asking.specs.Asked.{asked_in}
 use Rattle.uv_find.proofs.Forgets.{forgets}
 use Rattle.uv_find.proofs.Holds.{holds}
 use Rattle.uv_find.proofs.orders.Orders.new.Goals as goal

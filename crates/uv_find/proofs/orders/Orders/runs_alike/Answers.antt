@@ -1,8 +1,5 @@
-use Rattle.std.proofs.Common.{◌∙◌, ◌-◌}
+use Rattle.uv_find.proofs.Names.{◌∙◌, ◌-◌, are_run_alike, runner, rules_by}
 use Rattle.uv_model.specs.After.{after}
-use Rattle.uv_find.specs.Mates.{are_run_alike}
-use Rattle.uv_find.specs.Ranks.{runner}
-use Rattle.uv_find.specs.Spots.{rules_by}
 use Rattle.uv_find.proofs.orders.Orders.runs_alike.Goals as goal
 
 pub returns : goal.returns

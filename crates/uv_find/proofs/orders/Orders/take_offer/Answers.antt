@@ -1,12 +1,6 @@
-use Rattle.std.proofs.Common.{◌≡◌, refl, ◌∙◌, ap₂, ap, slice_set}
-use Rattle.std.specs.declared.alloc.AllocError.{AllocError}
+use Rattle.uv_find.proofs.Names.{◌≡◌, refl, ◌∙◌, ap₂, ap, slice_set, AllocError, Made, kept_after, lessened, place_by, offer_taken}
 use Rattle.uv_model.specs.After.{after}
-use Rattle.uv_find.specs.declared.orders.Made.{Made}
 use Rattle.uv_find.specs.declared.orders.Was.TheVariants as was
-use Rattle.uv_find.specs.Kept.{kept_after}
-use Rattle.uv_find.specs.Orders.{lessened}
-use Rattle.uv_find.specs.Spots.{place_by}
-use Rattle.uv_find.specs.Steps.{offer_taken}
 use Rattle.uv_find.proofs.Taking.{takes_one, taken_searched}
 use Rattle.uv_find.proofs.orders.Orders.take_offer.Goals as goal
 

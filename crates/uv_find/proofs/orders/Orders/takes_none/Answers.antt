@@ -1,5 +1,4 @@
-use Rattle.std.proofs.Common.{sym}
-use Rattle.std.specs.declared.alloc.AllocError.{AllocError}
+use Rattle.uv_find.proofs.Names.{sym, AllocError}
 use Rattle.uv_find.proofs.Leading.{takes_some}
 use Rattle.uv_find.proofs.orders.Orders.takes_none.Goals as goal
 

@@ -1,5 +1,4 @@
-use Rattle.std.proofs.Common.{◌≡◌, true}
-use Rattle.uv_find.specs.Questions.{none_leads}
+use Rattle.uv_find.proofs.Names.{◌≡◌, true, none_leads}
 use Rattle.uv_find.proofs.orders.Orders.takes_none.Given as goal
 
 abbrev pub invariant-offers : goal.invariant-offers

@@ -1,5 +1,5 @@
 -- Memory and slots with no place come, and the places stay.
-use Rattle.std.proofs.Common.{arith}
+use Rattle.uv_heap.proofs.Names.{arith}
 use Rattle.uv_heap.proofs.PlaceLemmas.{places_grown, places_kept}
 use Rattle.uv_heap.proofs.placed.PlacedEntries.reserve.Goals as goal
 

@@ -1,4 +1,4 @@
-use Rattle.std.proofs.Common.{◌≡◌, ◌+◌, vec_len}
+use Rattle.uv_live.proofs.Names.{◌≡◌, ◌+◌, vec_len}
 use Rattle.uv_live.proofs.outside.Outside.into_seat.Given as goal
 
 abbrev pub invariant-left : goal.invariant-left

@@ -1,4 +1,4 @@
-use Rattle.std.proofs.Common.{rules, ◌≡◌, [], ◌∷◌, length, sym, ap, ◌∙◌, arith, take, pred}
+use Rattle.uv_loop.proofs.Names.{rules, ◌≡◌, [], ◌∷◌, length, sym, ap, ◌∙◌, arith, take, pred}
 use Rattle.uv_loop.proofs.KeptLines.{popped_narrow, popped_wide, popped_said, count_popped}
 use Rattle.uv_loop.proofs.line_row.LineRow.pop.Goals as goal
 

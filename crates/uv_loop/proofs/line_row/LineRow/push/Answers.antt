@@ -1,5 +1,4 @@
-use Rattle.std.proofs.Common.{rules, ◌≡◌, [], ◌∷◌, ◌++◌, length, sym, ap, ◌∙◌}
-use Rattle.uv_loop.specs.LineRows.{all_said}
+use Rattle.uv_loop.proofs.Names.{rules, ◌≡◌, [], ◌∷◌, ◌++◌, length, sym, ap, ◌∙◌, all_said}
 use Rattle.uv_loop.proofs.KeptLines.{pushed_narrow, pushed_wide, said_wide_pushed}
 use Rattle.uv_loop.proofs.line_row.LineRow.push.Goals as goal
 

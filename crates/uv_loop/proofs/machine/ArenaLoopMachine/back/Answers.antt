@@ -1,5 +1,4 @@
-use Rattle.uv_loop.proofs.Names.{held, image_of, event_of, events_of, sym, ◌∙◌, length-map}
-use Rattle.uv_memory.specs.Record.{at_place}
+use Rattle.uv_loop.proofs.Names.{held, image_of, event_of, events_of, sym, ◌∙◌, length-map, at_place}
 use Rattle.uv_loop.proofs.Courses.{course_length, course_dropped, course_shorter, drops}
 use Rattle.uv_loop.proofs.Told.{events_take}
 use Rattle.uv_loop.proofs.machine.ArenaLoopMachine.back.Goals as goal

@@ -1,4 +1,4 @@
-use Rattle.std.proofs.Common.{ap}
+use Rattle.uv_memory.proofs.Names.{ap}
 use Rattle.uv_memory.proofs.Rows.{fresh_fit}
 use Rattle.uv_memory.proofs.memory.Memory.new.Goals as goal
 

@@ -1,5 +1,4 @@
-use Rattle.uv_memory.proofs.Names.{ap, sym, subst, refl, IsFit, image_of, kept}
-use Rattle.uv_memory.specs.Record.{at_place}
+use Rattle.uv_memory.proofs.Names.{ap, sym, subst, refl, IsFit, image_of, kept, at_place}
 use Rattle.uv_memory.proofs.Rows.{unwound_by}
 use Rattle.uv_memory.proofs.memory.Memory.unwind_at.Goals as goal
 

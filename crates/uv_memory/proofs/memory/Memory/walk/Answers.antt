@@ -1,5 +1,4 @@
-use Rattle.std.specs.Prelude.{IfNone}
-use Rattle.uv_memory.proofs.Names.{◌≡◌, Option, Some, None, refl, ap, subst, Id, HandleRecord, ListName, Content, Record, NoHandleFirst, FirstIs, kept, image_of}
+use Rattle.uv_memory.proofs.Names.{IfNone, ◌≡◌, Option, Some, None, refl, ap, subst, Id, HandleRecord, ListName, Content, Record, NoHandleFirst, FirstIs, kept, image_of}
 use Rattle.uv_arena.specs.Image as arena
 use Rattle.uv_memory.proofs.Steps.{walked}
 use Rattle.uv_memory.proofs.memory.Memory.walk.Goals as goal

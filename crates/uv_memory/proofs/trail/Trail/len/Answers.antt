@@ -1,4 +1,4 @@
-use Rattle.std.proofs.Common.{rules, ◌≡◌, sym, ap, ◌∙◌, length}
+use Rattle.uv_memory.proofs.Names.{rules, ◌≡◌, sym, ap, ◌∙◌, length}
 use Rattle.uv_memory.proofs.Longer.{as_many}
 use Rattle.uv_memory.proofs.trail.Trail.len.Goals as goal
 

@@ -1,4 +1,4 @@
-use Rattle.std.proofs.Common.{rules, ◌≡◌, length, sym, ap, ◌∙◌}
+use Rattle.uv_memory.proofs.Names.{rules, ◌≡◌, length, sym, ap, ◌∙◌}
 use Rattle.uv_memory.proofs.Longer.{small_popped, small_there, small_records, small_taken, medium_popped, medium_there, medium_records, medium_taken, large_popped, large_there, large_records, large_taken}
 use Rattle.uv_memory.proofs.Spare.{freed, stays, least_more}
 use Rattle.uv_memory.proofs.trail.Trail.pop_at.Goals as goal

@@ -1,7 +1,6 @@
-use Rattle.std.proofs.Common.{[], ◌∷◌, ◌++◌, refl, ap, ◌∙◌}
+use Rattle.uv_memory.proofs.Names.{[], ◌∷◌, ◌++◌, refl, ap, ◌∙◌, at_place}
 use Rattle.uv_memory.proofs.Longer.{small_pushed, small_records, small_kept, medium_pushed, medium_records, medium_kept, large_pushed, large_records, large_kept}
 use Rattle.uv_memory.proofs.Spare.{in_first, in_second, in_third, in_fourth, taken, as_was, least_less}
-use Rattle.uv_memory.specs.Record.{at_place}
 use Rattle.uv_memory.specs.declared.row.Row.TheVariants as row
 use Rattle.uv_memory.proofs.trail.Trail.push_at.Goals as goal
 

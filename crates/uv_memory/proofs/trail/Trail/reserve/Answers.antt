@@ -1,5 +1,4 @@
-use Rattle.std.proofs.Common.{Bool, true, false, Result, Ok, Err, is_err, OnOk, OnErr}
-use Rattle.uv_memory.proofs.Names.{◌≡◌, List, refl, ap, ◌∙◌, Row, Entry, Small, Medium, Large, Fits, records_of, Kept}
+use Rattle.uv_memory.proofs.Names.{Bool, true, false, Result, Ok, Err, is_err, OnOk, OnErr, ◌≡◌, List, refl, ap, ◌∙◌, Row, Entry, Small, Medium, Large, Fits, records_of, Kept}
 use Rattle.uv_memory.proofs.Spare.{fits, fits_both, grown, stays, least_more, lacks, of_first, of_second, of_third, of_fourth}
 use Rattle.uv_memory.proofs.trail.Trail.reserve.Goals as goal
 

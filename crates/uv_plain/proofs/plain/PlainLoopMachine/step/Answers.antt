@@ -1,4 +1,4 @@
-use Rattle.std.proofs.Common.{sym, ◌∙◌, refl, arith}
+use Rattle.uv_plain.proofs.Names.{sym, ◌∙◌, refl, arith}
 use Rattle.uv_plain.proofs.Kept.{kept_more, answers_more}
 use Rattle.uv_plain.proofs.plain.PlainLoopMachine.step.Goals as goal
 

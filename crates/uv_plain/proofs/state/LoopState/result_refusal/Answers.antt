@@ -1,4 +1,4 @@
-use Rattle.std.proofs.Common.{inr, refl, sym, ◌∙◌}
+use Rattle.uv_plain.proofs.Names.{inr, refl, sym, ◌∙◌}
 use Rattle.uv_plain.proofs.state.LoopState.result_refusal.Goals as goal
 
 pub returns-in_default-clause-some : goal.returns-in_default-clause-some

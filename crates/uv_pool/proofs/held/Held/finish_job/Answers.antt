@@ -1,4 +1,4 @@
-use Rattle.std.proofs.Common.{Some, refl, ap, sym, ◌∙◌}
+use Rattle.uv_pool.proofs.Names.{Some, refl, ap, sym, ◌∙◌}
 use Rattle.uv_pool.proofs.held.Held.finish_job.Goals as goal
 
 pub returns-then-not-is-clause-call : goal.returns-then-not-is-clause-call

@@ -1,4 +1,4 @@
-use Rattle.std.proofs.Common.{◌≡◌, None, arith, refl, replicate, rules}
+use Rattle.uv_pool.proofs.Names.{◌≡◌, None, arith, refl, replicate, rules}
 use Rattle.uv_pool.proofs.Standing.{nothing_stands}
 use Rattle.uv_pool.proofs.held.Held.new.Goals as goal
 

@@ -1,4 +1,4 @@
-use Rattle.std.proofs.Common.{rules, arith}
+use Rattle.uv_pool.proofs.Names.{rules, arith}
 use Rattle.uv_pool.proofs.JobLists.{jobs_appended}
 use Rattle.uv_pool.proofs.Kept.{kept_queue}
 use Rattle.uv_pool.proofs.held.Held.queue.Goals as goal

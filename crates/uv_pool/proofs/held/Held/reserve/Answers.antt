@@ -1,4 +1,4 @@
-use Rattle.std.proofs.Common.{rules, refl}
+use Rattle.uv_pool.proofs.Names.{rules, refl}
 use Rattle.uv_pool.proofs.Kept.{kept_same}
 use Rattle.uv_pool.proofs.held.Held.reserve.Goals as goal
 

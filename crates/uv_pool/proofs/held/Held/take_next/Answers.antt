@@ -1,4 +1,4 @@
-use Rattle.std.proofs.Common.{Some, refl, ap, sym, ◌∙◌}
+use Rattle.uv_pool.proofs.Names.{Some, refl, ap, sym, ◌∙◌}
 use Rattle.uv_pool.proofs.held.Held.take_next.Goals as goal
 
 pub returns-in-Some-Some-clause-call : goal.returns-in-Some-Some-clause-call

@@ -1,4 +1,4 @@
-use Rattle.std.proofs.Common.{◌≡◌, ◌∷◌, Some, arith, ◌+◌, length}
+use Rattle.uv_pool.proofs.Names.{◌≡◌, ◌∷◌, Some, arith, ◌+◌, length}
 use Rattle.uv_pool.proofs.Leaving.{front_pops}
 use Rattle.uv_pool.proofs.queue.Queue.pop.Goals as goal
 

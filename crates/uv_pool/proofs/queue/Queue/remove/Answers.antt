@@ -1,4 +1,4 @@
-use Rattle.std.proofs.Common.{◌≡◌, ◌+◌, length, arith}
+use Rattle.uv_pool.proofs.Names.{◌≡◌, ◌+◌, length, arith}
 use Rattle.uv_pool.proofs.Leaving.{removal_leaves}
 use Rattle.uv_pool.proofs.queue.Queue.remove.Goals as goal
 

@@ -1,4 +1,4 @@
-use Rattle.std.proofs.Common.{◌++◌, [], ◌∷◌, ap, ◌∙◌}
+use Rattle.uv_raw.proofs.Names.{◌++◌, [], ◌∷◌, ap, ◌∙◌}
 use Rattle.uv_raw.proofs.Found.{after_add, size_added, row_added, there_added}
 use Rattle.uv_raw.proofs.pieces.Pieces.add_piece.Goals as goal
 

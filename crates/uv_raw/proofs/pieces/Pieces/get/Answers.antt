@@ -1,4 +1,4 @@
-use Rattle.std.proofs.Common.{◌∙◌}
+use Rattle.uv_raw.proofs.Names.{◌∙◌}
 use Rattle.uv_raw.proofs.Found.{within_table, there, within_piece}
 use Rattle.uv_raw.proofs.pieces.Pieces.get.Goals as goal
 

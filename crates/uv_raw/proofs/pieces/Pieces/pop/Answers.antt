@@ -1,4 +1,4 @@
-use Rattle.std.proofs.Common.{arith}
+use Rattle.uv_raw.proofs.Names.{arith}
 use Rattle.uv_raw.proofs.Found.{last_within_table, some_there, after_pop, size_popped, items_popped}
 use Rattle.uv_raw.proofs.pieces.Pieces.pop.Goals as goal
 

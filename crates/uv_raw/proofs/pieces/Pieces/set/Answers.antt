@@ -1,4 +1,4 @@
-use Rattle.std.proofs.Common.{◌∙◌}
+use Rattle.uv_raw.proofs.Names.{◌∙◌}
 use Rattle.uv_raw.proofs.Found.{within_table, within_piece, there, after_set, size_set, row_set}
 use Rattle.uv_raw.proofs.pieces.Pieces.set.Goals as goal
 

@@ -1,4 +1,4 @@
-use Rattle.std.proofs.Common.{refl, ◌-◌}
+use Rattle.uv_raw.proofs.Names.{refl, ◌-◌}
 use Rattle.uv_raw.proofs.Rows.{last_block, pop_block}
 use Rattle.uv_raw.proofs.raw_row.RawRow.pop.Goals as goal
 

@@ -1,13 +1,9 @@
 -- A `&` to the places reaches each value.
-use base.Fml.{Incl-trans}
-use contract.BorrowLft.{meet_⊑_left}
-use denote.RattleType.{RattleType}
+use Rattle.uv_raw.proofs.Names.{Incl-trans, meet_⊑_left, RattleType, Shares-less, of_Lends}
 use denote.Param.Laws.{Laws}
 use denote.Param.Shared.{copy_shared}
-use denote.Shares.{Shares-less}
 use denote.Struct.Field.{RawPtr-field}
 use denote.Struct.Laws.{RawPtr-copy}
-use denote.Struct.Lending.{of_Lends}
 use mathlib.Core.List.{[], ◌++◌}
 use Rattle.uv_raw.specs.contracts.room.Room as C
 use Rattle.uv_raw.proofs.room.Room.TheLaw.Statement.{statement}

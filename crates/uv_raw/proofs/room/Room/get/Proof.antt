@@ -1,8 +1,6 @@
 -- `get` hands on the `&` to one value that the places lend.
-use Rattle.uv_raw.proofs.Names.{◌≡◌, ℕ, ◌+◌, ◌*◌, ◌^◌, ◌<◌, List, [], ◌∷◌, ◌++◌, length, slice_get, Some, refl, arith, w64, SProp, id⊢, never, flft, ftrue, inst_fn, Val, vptr, vint, WpFn, ‵, raw, ◌⊛◌, at_ret, prop, ◌$◌, ◌∵◌, !, qed, move, keep, drop, use1, split, join, fsplit, fjoin, feq_i, flt_l, regoal, suffices, done, enter, stop, fld, load, look, addr, bin, size_lit, of_opd, first, blocks, exec, returns, alloc_all, pass_all, free_all, look_at, get, through, sets, sets_last, env, tables, ◌⊑◌, fact, RefOf, usize, yes, hidden_shr, shared_of, owns, RawPtr, in_a_block, plain, types_at, nothing, heard, Stays, stay_dropped, walk_of, says, ends_at, Goes-dropped, proved_at, after, El, R, args, el_x, times_below, one_below}
-use Rattle.std.proofs.lemmas.Option.{slice_get_within}
+use Rattle.uv_raw.proofs.Names.{◌≡◌, ℕ, ◌+◌, ◌*◌, ◌^◌, ◌<◌, List, [], ◌∷◌, ◌++◌, length, slice_get, Some, refl, arith, w64, SProp, id⊢, never, flft, ftrue, inst_fn, Val, vptr, vint, WpFn, ‵, raw, ◌⊛◌, at_ret, prop, ◌$◌, ◌∵◌, !, qed, move, keep, drop, use1, split, join, fsplit, fjoin, feq_i, flt_l, regoal, suffices, done, enter, stop, fld, load, look, addr, bin, size_lit, of_opd, first, blocks, exec, returns, alloc_all, pass_all, free_all, look_at, get, through, sets, sets_last, env, tables, ◌⊑◌, fact, RefOf, usize, yes, hidden_shr, shared_of, owns, RawPtr, in_a_block, plain, types_at, nothing, heard, Stays, stay_dropped, walk_of, says, ends_at, Goes-dropped, proved_at, after, El, R, args, el_x, times_below, one_below, slice_get_within, room_shares}
 use Rattle.core.proofs.slots.Lent.{pointer_in, pointer_out}
-use Rattle.uv_raw.specs.Ownership.{room_shares}
 use Rattle.uv_raw.proofs.Places.{size, place_seen}
 use Rattle.uv_raw.proofs.Opened.{Room, room_seen}
 use Rattle.uv_raw.specs.contracts.room.Room.get.{ended, clauses}

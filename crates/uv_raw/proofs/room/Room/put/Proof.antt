@@ -1,6 +1,5 @@
 -- `put` makes room of a place, and writes the value there.
-use Rattle.uv_raw.proofs.Names.{◌≡◌, ℕ, ◌+◌, ◌*◌, ◌^◌, ◌<◌, List, [], ◌∷◌, ◌++◌, length, set, Some, refl, sym, subst, arith, w64, length-set, SProp, ftrue, froom, flft, inst_fn, Val, vptr, vint, vunit, WpFn, ‵, raw, ◌⊛◌, at_ret, prop, ◌$◌, ◌∵◌, !, qed, move, keep, drop, use1, use3, split, join, fsplit, fsplit3, fjoin, fjoin3, feq_i, rewrite, regoal, suffices, done, whole, sub, look_in, enter, init, stop, fld, load, bin, unit_lit, size_lit, of_opd, first, blocks, exec, assigns_last, returns, alloc_all, pass_all, free_all, look_at, get, through, sets, env, tables, ◌⊑◌, fact, usize, yes, no, owns, block_ptr, plain, types_at, nothing, heard, Stays, stay_dropped, stay_ref, walk_of, says, ends_at, Goes-dropped, Goes-ref, proved_at, after, El, R, args, elτ, el_x, lawful, one, times_below, one_below}
-use Rattle.uv_raw.specs.Ownership.{heap_token, row, block}
+use Rattle.uv_raw.proofs.Names.{◌≡◌, ℕ, ◌+◌, ◌*◌, ◌^◌, ◌<◌, List, [], ◌∷◌, ◌++◌, length, set, Some, refl, sym, subst, arith, w64, length-set, SProp, ftrue, froom, flft, inst_fn, Val, vptr, vint, vunit, WpFn, ‵, raw, ◌⊛◌, at_ret, prop, ◌$◌, ◌∵◌, !, qed, move, keep, drop, use1, use3, split, join, fsplit, fsplit3, fjoin, fjoin3, feq_i, rewrite, regoal, suffices, done, whole, sub, look_in, enter, init, stop, fld, load, bin, unit_lit, size_lit, of_opd, first, blocks, exec, assigns_last, returns, alloc_all, pass_all, free_all, look_at, get, through, sets, env, tables, ◌⊑◌, fact, usize, yes, no, owns, block_ptr, plain, types_at, nothing, heard, Stays, stay_dropped, stay_ref, walk_of, says, ends_at, Goes-dropped, Goes-ref, proved_at, after, El, R, args, elτ, el_x, lawful, one, times_below, one_below, heap_token, row, block}
 use Rattle.uv_raw.proofs.Places.{size, others, place_out, place_in}
 use Rattle.uv_raw.proofs.Opened.{Room, room_opens, room_closes}
 use Rattle.uv_raw.specs.contracts.room.Room.put.{ended, clauses}

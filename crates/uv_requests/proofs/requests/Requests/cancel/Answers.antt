@@ -1,4 +1,4 @@
-use Rattle.std.proofs.Common.{sym, ◌∙◌, refl}
+use Rattle.uv_requests.proofs.Names.{sym, ◌∙◌, refl}
 use Rattle.uv_requests.proofs.Ending.{closed_refusal, loose_refusal}
 use Rattle.uv_requests.proofs.requests.Requests.cancel.Goals as goal
 use Rattle.uv_requests.proofs.requests.Requests.cancel.Goals.{else-is_open-via-then-is_open+else-on_list, else-is_open-via-else-is_open}

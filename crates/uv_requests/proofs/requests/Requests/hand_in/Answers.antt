@@ -1,5 +1,4 @@
-use Rattle.uv_requests.proofs.Names.{sym, ap, ◌∙◌, Job, text_of, set_done}
-use Rattle.std.proofs.lemmas.Option.{slice_get_within}
+use Rattle.uv_requests.proofs.Names.{sym, ap, ◌∙◌, Job, text_of, set_done, slice_get_within}
 use Rattle.uv_work.specs.Digests.{digest_of}
 use Rattle.uv_requests.proofs.Ending.{finish_done}
 use Rattle.uv_requests.proofs.requests.Requests.hand_in.Goals as goal

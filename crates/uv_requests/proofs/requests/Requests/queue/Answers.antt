@@ -1,4 +1,4 @@
-use Rattle.std.proofs.Common.{refl, arith}
+use Rattle.uv_requests.proofs.Names.{refl, arith}
 use Rattle.uv_requests.proofs.Opened.{queue_done}
 use Rattle.uv_requests.proofs.requests.Requests.queue.Goals as goal
 

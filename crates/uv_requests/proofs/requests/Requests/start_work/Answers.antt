@@ -1,4 +1,4 @@
-use Rattle.std.proofs.lemmas.Option.{slice_get_within}
+use Rattle.uv_requests.proofs.Names.{slice_get_within}
 use Rattle.uv_requests.proofs.Opened.{take_done}
 use Rattle.uv_requests.proofs.requests.Requests.start_work.Goals as goal
 

@@ -1,4 +1,4 @@
-use Rattle.std.proofs.Common.{◌∙◌, ap₂, nat_lt}
+use Rattle.uv_run.proofs.Names.{◌∙◌, ap₂, nat_lt}
 use Rattle.uv_run.proofs.Open.{at_work}
 use Rattle.uv_run.proofs.pool_log.PoolLog.is_at_work.Goals as goal
 

@@ -1,4 +1,4 @@
-use Rattle.std.proofs.Common.{sym}
+use Rattle.uv_script.proofs.ProofNames.{sym}
 use Rattle.uv_script.proofs.Places.{found_place, no_place, place_of-found, place_of-none, place_of-sound, place_of-finds}
 use Rattle.uv_script.proofs.names.Names.number.Goals as goal
 

@@ -1,5 +1,4 @@
-use Rattle.std.proofs.lemmas.Result.{err_from_is_err_and}
-use Rattle.uv_script.proofs.ProofNames.{arith}
+use Rattle.uv_script.proofs.ProofNames.{err_from_is_err_and, arith}
 use Rattle.uv_script.proofs.Writing.{name_cut, name_feed_cut, name_fed}
 use Rattle.uv_script.proofs.names.Names.push_declarations.Goals as goal
 

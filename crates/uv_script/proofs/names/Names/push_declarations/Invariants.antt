@@ -1,5 +1,4 @@
-use Rattle.std.proofs.Common.{take}
-use Rattle.uv_script.proofs.ProofNames.{◌≡◌, ◌++◌, map, var_line, lines_text}
+use Rattle.uv_script.proofs.ProofNames.{take, ◌≡◌, ◌++◌, map, var_line, lines_text}
 use Rattle.uv_script.proofs.names.Names.push_declarations.Given as goal
 
 -- the lines so far are written

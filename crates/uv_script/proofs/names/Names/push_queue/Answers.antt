@@ -1,6 +1,4 @@
-use Rattle.std.proofs.Common.{List, ℕ, refl, arith, subst, ◌≡◌, ◌++◌, codes, decimal, append_assoc}
-use Rattle.uv_script.specs.Text.{name_text, task_text}
-use Rattle.uv_script.specs.Writes.{Writes}
+use Rattle.uv_script.proofs.ProofNames.{List, ℕ, refl, arith, subst, ◌≡◌, ◌++◌, codes, decimal, append_assoc, name_text, task_text, Writes}
 use Rattle.uv_script.proofs.Writing.{last_behind}
 use Rattle.uv_script.proofs.names.Names.push_queue.Goals as goal
 

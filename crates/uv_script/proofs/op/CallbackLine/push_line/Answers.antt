@@ -1,5 +1,4 @@
-use Rattle.std.proofs.Common.{arith, refl, ◌≡◌, ◌++◌, append_assoc, codes}
-use Rattle.uv_script.specs.Text.{front_text, name_text, call_text, op_text}
+use Rattle.uv_script.proofs.ProofNames.{arith, refl, ◌≡◌, ◌++◌, append_assoc, codes, front_text, name_text, call_text, op_text}
 use Rattle.uv_script.proofs.Writing.{last_behind}
 use Rattle.uv_script.proofs.op.CallbackLine.push_line.Goals as goal
 

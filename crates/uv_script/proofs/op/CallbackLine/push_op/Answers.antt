@@ -1,6 +1,4 @@
-use Rattle.std.proofs.Common.{Option, ℕ, arith, refl, sym, subst, ◌≡◌, ◌++◌, append_assoc, codes, decimal}
-use Rattle.uv_script.specs.Text.{call_text, op_text}
-use Rattle.uv_script.specs.Writes.{Writes}
+use Rattle.uv_script.proofs.ProofNames.{Option, ℕ, arith, refl, sym, subst, ◌≡◌, ◌++◌, append_assoc, codes, decimal, call_text, op_text, Writes}
 use Rattle.uv_script.proofs.Writing.{last_behind}
 use Rattle.uv_script.proofs.op.CallbackLine.push_op.Goals as goal
 

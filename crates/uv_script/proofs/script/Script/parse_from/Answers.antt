@@ -1,5 +1,4 @@
-use Rattle.uv_script.proofs.ProofNames.{◌+◌, [], ◌∷◌, refl, ap, sym, ◌∙◌, subst, arith, length-append, Draft, ReadsAll, none, blank, Program}
-use Rattle.std.proofs.lemmas.Result.{err_from_is_err_and}
+use Rattle.uv_script.proofs.ProofNames.{◌+◌, [], ◌∷◌, refl, ap, sym, ◌∙◌, subst, arith, length-append, Draft, ReadsAll, none, blank, Program, err_from_is_err_and}
 use Rattle.uv_script.proofs.AfterLines.{distinct_none, line_number, lines_step, reads_step, all_read, line_fault}
 use Rattle.uv_script.proofs.script.Script.parse_from.Goals as goal
 

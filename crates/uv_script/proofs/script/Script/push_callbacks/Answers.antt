@@ -1,5 +1,4 @@
-use Rattle.std.proofs.lemmas.Result.{err_from_is_err_and}
-use Rattle.uv_script.proofs.ProofNames.{◌≡◌, ◌<◌, length, ap, refl, arith}
+use Rattle.uv_script.proofs.ProofNames.{err_from_is_err_and, ◌≡◌, ◌<◌, length, ap, refl, arith}
 use Rattle.uv_script.proofs.Texts.{callbacks_turn, callbacks_end}
 use Rattle.uv_script.proofs.Writing.{none_written, whole_is_cut, callbacks_cut}
 use Rattle.uv_script.proofs.script.Script.push_callbacks.Goals as goal

@@ -1,5 +1,4 @@
-use Rattle.uv_script.proofs.ProofNames.{◌≡◌, ◌++◌, drop, callback_lines, lines_text}
-use Rattle.uv_script.specs.Writes.{CutShort}
+use Rattle.uv_script.proofs.ProofNames.{◌≡◌, ◌++◌, drop, callback_lines, lines_text, CutShort}
 use Rattle.uv_script.proofs.script.Script.push_callbacks.Given as goal
 
 -- what is written, with the lines that are left, is all

@@ -1,6 +1,5 @@
 use Rattle.uv_ids.specs.declared.seen.Callback.TheVariants as callback
-use Rattle.uv_script.proofs.ProofNames.{◌≡◌, ◌++◌, [], map, subst, append_assoc, arith, Var, Program, callback_line, lines_in, lines_text, name_lines}
-use Rattle.std.proofs.lemmas.Result.{err_from_is_err_and}
+use Rattle.uv_script.proofs.ProofNames.{◌≡◌, ◌++◌, [], map, subst, append_assoc, arith, Var, Program, callback_line, lines_in, lines_text, name_lines, err_from_is_err_and}
 use Rattle.uv_script.proofs.Writing.{Begins, begins_itself, cut_at, writing}
 use Rattle.uv_script.proofs.Texts.{three_lists}
 use Rattle.uv_script.proofs.script.Script.push_callbacks_of.Goals as goal

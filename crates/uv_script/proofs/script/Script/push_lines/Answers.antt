@@ -1,6 +1,5 @@
-use Rattle.std.proofs.lemmas.Result.{err_from_is_err_and}
+use Rattle.uv_script.proofs.ProofNames.{err_from_is_err_and, ◌≡◌, ◌++◌, ℕ, List, [], map, refl, subst, append_assoc, arith, Program, setting_lines, var_line, main_line, callback_lines, thread_line, lines_text}
 use Rattle.uv_script.specs.Text.{script_text}
-use Rattle.uv_script.proofs.ProofNames.{◌≡◌, ◌++◌, ℕ, List, [], map, refl, subst, append_assoc, arith, Program, setting_lines, var_line, main_line, callback_lines, thread_line, lines_text}
 use Rattle.uv_script.proofs.Writing.{Begins, begins_itself, begins_less, cut_at, writing}
 use Rattle.uv_script.proofs.Texts.{whole_text}
 use Rattle.uv_script.proofs.script.Script.push_lines.Goals as goal

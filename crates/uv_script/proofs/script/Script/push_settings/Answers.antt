@@ -1,6 +1,5 @@
-use Rattle.uv_script.proofs.ProofNames.{◌≡◌, ◌++◌, [], ◌∷◌, ◌∙◌, ℕ, List, ap, refl, subst, append_assoc, arith, Program, setting_lines, lines_text, arena_size, worker_count, order_of, has_io, from_heap, order_line, io_line, heap_line, line_if, workers_line, slots_line}
+use Rattle.uv_script.proofs.ProofNames.{◌≡◌, ◌++◌, [], ◌∷◌, ◌∙◌, ℕ, List, ap, refl, subst, append_assoc, arith, Program, setting_lines, lines_text, arena_size, worker_count, order_of, has_io, from_heap, order_line, io_line, heap_line, line_if, workers_line, slots_line, err_from_is_err_and}
 use Rattle.uv_script.proofs.Texts.{setting_texts}
-use Rattle.std.proofs.lemmas.Result.{err_from_is_err_and}
 use Rattle.uv_script.proofs.Writing.{Begins, begins_itself, begins_more, begins_less, cut_at, cut_whole}
 use Rattle.uv_script.proofs.script.Script.push_settings.Goals as goal
 

@@ -1,4 +1,4 @@
-use Rattle.std.proofs.Common.{rules, append_assoc}
+use Rattle.uv_script.proofs.ProofNames.{rules, append_assoc}
 use Rattle.uv_script.proofs.script.Script.push_slots.Goals as goal
 
 pub returns : goal.returns

@@ -1,4 +1,4 @@
-use Rattle.std.proofs.Common.{ap, ◌∙◌, ◌++◌}
+use Rattle.uv_script.proofs.ProofNames.{ap, ◌∙◌, ◌++◌}
 use Rattle.uv_script.specs.Text.{script_text}
 use Rattle.uv_script.proofs.ReadBack.{back}
 use Rattle.uv_script.proofs.script.Script.text.Goals as goal

@@ -1,5 +1,5 @@
 use Rattle.uv_script.proofs.SameWork.{parts_read, written_over}
-use Rattle.uv_script.specs.SameWork.{same_main, same_callbacks}
+use Rattle.uv_script.proofs.ProofNames.{same_main, same_callbacks}
 use Rattle.uv_script.proofs.script.Script.with_same_work.Goals as goal
 
 pub invariant_of-self : goal.invariant_of-self

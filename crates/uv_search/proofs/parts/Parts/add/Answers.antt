@@ -1,10 +1,4 @@
-use Rattle.std.proofs.Common.{◌≡◌, List, ℕ, true, false, arith, sym, ap, subst, ◌∙◌, map, nat_eq, Bool, refl, slice_get, Some, length, ◌∷◌, ◌++◌, []}
-use Rattle.std.proofs.lemmas.Grind.{common_steps}
-use Rattle.std.proofs.lemmas.List.{length-map}
-use Rattle.std.specs.List.{list_any}
-use Rattle.std.specs.Cmp.Lexicographic.{pointwise}
-use Rattle.uv_search.specs.declared.parts.Part.{Part}
-use Rattle.uv_search.specs.Keys.{Has}
+use Rattle.uv_search.proofs.Names.{◌≡◌, List, ℕ, true, false, arith, sym, ap, subst, ◌∙◌, map, nat_eq, Bool, refl, slice_get, Some, length, ◌∷◌, ◌++◌, [], common_steps, length-map, list_any, pointwise, Part, Has}
 use Rattle.uv_search.proofs.Cutting.{has_none}
 use Rattle.uv_search.proofs.KeyLists.{any_seen, get_before, get_last, map_last}
 use Rattle.uv_search.proofs.parts.Parts.add.Goals as goal
@@ -22,8 +16,7 @@ grown keys more one bytes is none grows =
     ap (map (λ (k : Part). k.bytes.items)) (grows absent) ∙ map_last (λ (k : Part). k.bytes.items) keys one ∙ ap (λ b. seen ++ b ∷ []) is
   where
     no : (b : Bool) → (b ≡ true → ⊥) → b ≡ false
-    no true not = absurd (not refl)
-    no false not = refl
+    no b not = grind arith
 
 pub returns-clause-ok : goal.returns-clause-ok
 returns-clause-ok c =

@@ -1,5 +1,4 @@
-use Rattle.std.proofs.Common.{nat_eq}
-use Rattle.std.specs.Cmp.Lexicographic.{pointwise}
+use Rattle.uv_search.proofs.Names.{nat_eq, pointwise}
 use Rattle.uv_search.proofs.Cutting.{once_distinct}
 use Rattle.uv_search.proofs.KeyLists.{distinct_seen}
 use Rattle.uv_search.proofs.parts.Parts.is_once.Goals as goal

@@ -1,7 +1,4 @@
-use Rattle.std.proofs.Common.{◌≡◌, List, ℕ, true, Some, None, sym, subst, ◌∙◌, map, nat_eq, slice_get, position, is_some}
-use Rattle.std.specs.List.{list_any}
-use Rattle.std.specs.Cmp.Lexicographic.{pointwise}
-use Rattle.uv_search.specs.declared.parts.Part.{Part}
+use Rattle.uv_search.proofs.Names.{◌≡◌, List, ℕ, true, Some, None, sym, subst, ◌∙◌, map, nat_eq, slice_get, position, is_some, list_any, pointwise, Part}
 use Rattle.uv_search.proofs.KeyLists.{any_seen, has_at, position_seen}
 use Rattle.uv_search.proofs.parts.Parts.number.Goals as goal
 

@@ -1,7 +1,4 @@
-use Rattle.std.proofs.Common.{◌∙◌, arith, sym, ap, length, slice_get, subst}
-use Rattle.std.proofs.lemmas.List.{length-map}
-use Rattle.uv_search.specs.Cuts.{joined}
-use Rattle.uv_search.specs.Keys.{Has}
+use Rattle.uv_search.proofs.Names.{◌∙◌, arith, sym, ap, length, slice_get, subst, length-map, joined, Has}
 use Rattle.uv_search.proofs.Cutting.{cut_more, has_none, keys_more, no_pair, number_there, on_err, same_keys, still_cut}
 use Rattle.uv_search.proofs.seen.Seen.enter.Goals as goal
 
@@ -78,8 +75,4 @@ returns-in_ok-add-in-None-clause-ok c =
     let none = no_pair more keys c.is_once.ensures (still_cut halves keys more kept c.self.invariant) pair.0 pair.1 key front back
     (rw c.in-None.is at c.number.ensures.none) in
     let absent = subst (λ ks. Has ks key → ⊥) (same_keys halves keys more kept c.self.invariant ∙ c.self.view_is) (has_none _ key none) in
-    let grown = keys_more halves more keys kept c.self.invariant pair.0 pair.1 key front back in (
-      absent,
-      omega (arith, c.if-len-limit.false, c.len.ensures, length-map keys (joined halves), ap length c.self.view_is),
-      rw (c.in_ok-add-in-None.ensures.ok, ← c.self.view_is) grown,
-    )
+    let grown = keys_more halves more keys kept c.self.invariant pair.0 pair.1 key front back in (grind (arith, length-map))

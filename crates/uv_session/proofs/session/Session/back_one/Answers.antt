@@ -6,5 +6,4 @@ pub returns-clause-ok : goal.returns-clause-ok
 returns-clause-ok g c =
     let low : 0 < c.self.inside.standing = grind (arith, common_steps, c.requires, c.self.view_is) in
     rw (← c.self.view_is, c.back.ensures.program)
-    (split_moved _ c.self.inside.limit c.self.inside.breaks.listed.items c.self.inside.standing 1 c.self.inside.events.items
-    (omega arith) c.self.invariant.within)
+    (search split_moved)

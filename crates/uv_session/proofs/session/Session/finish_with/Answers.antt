@@ -11,8 +11,7 @@ invariant_of-self-2 g c =
       within = grind (arith, common_steps);
       few = grind (arith, common_steps, c.in_ok-outcome.ensures.answer);
       accepted = rw (c.finish_with.ensures.program, c.push_reserved.ensures.items, c.truncate.ensures.items, c.reserve.ensures.items)
-          (accepts-push p (take c.self.inside.standing c.self.inside.events.items) (Finish c.args.worker) _ _
-          (accepts-take p c.self.inside.standing c.self.inside.events.items c.self.invariant.accepted) moved);
+          (search (accepts-push, take, accepts-take));
       limit_is = c.self.invariant.limit_is;
     }
 

@@ -3,9 +3,7 @@ use Rattle.uv_session.proofs.Traces.{those_all, is_documented, is_once, is_legal
 use Rattle.uv_session.proofs.session.Session.trace.Goals as goal
 
 pub returns-clause-lines : goal.returns-clause-lines
-returns-clause-lines g c =
-    let ended : length c.args.self.now.standing ≤ c.loop-step.step - 1 = grind (arith, common_steps, c.self.view_is) in
-    c.loop-step.invariant ∙ those_all c.args.self.now.program c.args.self.now.standing (c.loop-step.step - 1) ended
+returns-clause-lines g c = grind (arith, length, common_steps, those_all)
 
 pub returns-clause-documented : goal.returns-clause-documented
 returns-clause-documented g c = is_documented c.args.self.now c.loop-step.trace.items (returns-clause-lines g c)

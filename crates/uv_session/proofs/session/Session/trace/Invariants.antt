@@ -1,5 +1,4 @@
-use Rattle.std.proofs.Common.{◌≡◌, ◌-◌, take}
-use Rattle.uv_model.specs.After.{seen_by}
+use Rattle.uv_session.proofs.Names.{◌≡◌, ◌-◌, take, seen_by}
 use Rattle.uv_session.proofs.Traces.{those}
 use Rattle.uv_session.proofs.session.Session.trace.Given as goal
 

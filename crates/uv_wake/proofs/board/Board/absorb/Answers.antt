@@ -1,5 +1,4 @@
-use Rattle.std.proofs.Common.{◌∙◌, ap, subst, true}
-use Rattle.uv_wake.specs.Seats.{LoopAt, Carries}
+use Rattle.uv_wake.proofs.ProofNames.{◌∙◌, ap, subst, true, LoopAt, Carries}
 use Rattle.uv_wake.proofs.Carries.{once_of}
 use Rattle.uv_wake.proofs.board.Board.absorb.Goals as goal
 

@@ -1,6 +1,4 @@
-use Rattle.std.proofs.Common.{rules, sym, subst}
-use Rattle.uv_wake.specs.Steps.{loop_of}
-use Rattle.uv_wake.specs.Seats.{HasEach}
+use Rattle.uv_wake.proofs.ProofNames.{rules, sym, subst, loop_of, HasEach}
 use Rattle.uv_wake.proofs.LoopSteps.{learns}
 use Rattle.uv_wake.proofs.board.Board.learn.Goals as goal
 

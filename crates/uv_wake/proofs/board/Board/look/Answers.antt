@@ -1,7 +1,4 @@
-use Rattle.std.proofs.Common.{rules, refl, sym, subst, ap, ◌∙◌}
-use Rattle.uv_wake.specs.declared.views.LoopView.{LoopView}
-use Rattle.uv_wake.specs.Steps.{loop_of, is_odd}
-use Rattle.uv_wake.specs.Seats.{LoopAt, HasEach, after_look}
+use Rattle.uv_wake.proofs.ProofNames.{rules, refl, sym, subst, ap, ◌∙◌, LoopView, loop_of, is_odd, LoopAt, HasEach, after_look}
 use Rattle.uv_wake.proofs.LoopSteps.{looks, settles}
 use Rattle.uv_wake.proofs.board.Board.look.Goals as goal
 

@@ -1,4 +1,4 @@
-use Rattle.std.proofs.Common.{rules, refl}
+use Rattle.uv_wake.proofs.ProofNames.{rules, refl}
 use Rattle.uv_wake.proofs.SenderSteps.{sends, is_sends}
 use Rattle.uv_wake.proofs.board.Board.set.Goals as goal
 

@@ -1,4 +1,4 @@
-use Rattle.std.proofs.Common.{rules}
+use Rattle.uv_wake.proofs.ProofNames.{rules}
 use Rattle.uv_wake.proofs.LoopSteps.{splits}
 use Rattle.uv_wake.proofs.board.Board.split.Goals as goal
 

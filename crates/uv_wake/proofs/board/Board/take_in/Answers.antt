@@ -1,7 +1,4 @@
-use Rattle.std.proofs.Common.{rules, refl, ◌<◌, ◌^◌, ◌∙◌, ap, sym, subst, get_or}
-use Rattle.uv_wake.specs.declared.views.LoopView.{LoopView}
-use Rattle.uv_wake.specs.Steps.{loop_of}
-use Rattle.uv_wake.specs.Seats.{LoopAt, AllCarried, HasEach}
+use Rattle.uv_wake.proofs.ProofNames.{rules, refl, ◌<◌, ◌^◌, ◌∙◌, ap, sym, subst, get_or, LoopView, loop_of, LoopAt, AllCarried, HasEach}
 use Rattle.uv_wake.proofs.LoopSteps.{absorbs}
 use Rattle.uv_wake.proofs.board.Board.take_in.Goals as goal
 
