@@ -50,6 +50,27 @@ split n = at n
 small : (n : ℕ) → n ≡ n
 small n = refl
 """
+MODULES = """module _ (n : ℕ)
+    (m : ℕ) where
+  -- the first one
+  pub outer : n ≡ m
+  outer =
+      ap suc
+      (small n)
+
+  module _ (k : ℕ) where
+    inner : k ≡ n
+    inner = refl
+
+    twice : k ≡ n
+    twice = refl
+
+  behind : m ≡ n
+  behind = refl
+
+twice : (n : ℕ) → n ≡ n
+twice n = refl
+"""
 LOWER = """use Rattle.a_crate.proofs.Names.{ℕ}
 
 -- ---- a heading
@@ -94,6 +115,11 @@ def try_reading(tries: Tries) -> None:
     lines = SMALL.split("\n")
     tries.check("shorter, the lemmas of a file", [(it.name, len(it.clauses)) for it in found] == [("three", 3), ("split", 1), ("small", 1)], found)
     tries.check("shorter, where they stand", all(tuple(lines[it.first : it.end]) == it.lines for it in found), found)
+    found = lemmas_in(Path("Modules.antt"), MODULES)
+    lines = MODULES.split("\n")
+    rooms = [(it.name, len(it.room)) for it in found]
+    tries.check("shorter, the lemmas of modules", rooms == [("outer", 2), ("inner", 4), ("behind", 2), ("twice", 0)], rooms)
+    tries.check("shorter, where those stand", all(lines[it.first : it.end] == it.laid_in(it.lines) for it in found), found)
     side = side_of(("f {a} (x , y) (b = c) =", "    right"))
     tries.check("shorter, the sides of a clause", side is not None and (side.left, side.right) == ("f {a} (x , y) (b = c)", "\n    right"), side)
     tries.check("shorter, patterns", patterns_of("f {a} (x , y) z") == ["{a}", "(x , y)", "z"], patterns_of("f {a} (x , y) z"))
@@ -141,6 +167,9 @@ def try_choice(tries: Tries) -> None:
         here = lemmas_in(path, SMALL)[0]
         put({path: SMALL}, [Made(here, "whole", passed[0].lines, 0)])
         text = path.read_text(encoding="utf-8")
+        put({path: SMALL}, [Made(here, "whole", (*here.head, "three n m e2 =", "    grind arith steps", "    9"), 0)])
+        broken = path.read_text(encoding="utf-8")
+    tries.check("shorter, a bound on a line of its own", "three n m e2 =\n    grind arith\n\npub split" in broken, broken)
     tries.check("shorter, what is written", "three n m e2 = grind arith\n\npub split" in text, text)
 
 

@@ -170,7 +170,7 @@ class Trial:
                 name = whole_word(lemma.name)
                 new = [name.sub(f"{lemma.name}_try{count}", line) for line in made.lines]
                 self.placed.append(Placed(file, len(out) + 2, len(out) + 1 + len(new), made))
-                out += ["", new[0].removeprefix("pub "), *new[1:]]
+                out += ["", *lemma.laid_in([new[0].removeprefix("pub "), *new[1:]])]
         return "\n".join([*out, *lines[at:]])
 
     def leave_unread(self, said: Said) -> bool:

@@ -49,7 +49,7 @@ class Proofs:
     def shared(self) -> dict[Path, list[Lemma]]:
         """The lemmas of the files that stand at the top of proofs/, which aren't those of one function, as far as their mentions can be counted."""
         tops = {path: text for path, text in self.texts().items() if path.parent == self.folder / "proofs"}
-        return {path: [it for it in lemmas_in(path, text) if MENTION.fullmatch(it.name)] for path, text in tops.items()}
+        return {path: [it for it in lemmas_in(path, text) if not it.room and MENTION.fullmatch(it.name)] for path, text in tops.items()}
 
     def outside(self) -> set[str]:
         """The names that other crates, and the code, cite of these proofs."""

@@ -3,7 +3,9 @@
 from __future__ import annotations
 
 import re
-from dataclasses import dataclass
+from collections import Counter
+from collections.abc import Iterable
+from dataclasses import dataclass, replace
 from pathlib import Path
 
 OPEN, CLOSE = "([{", ")]}"
@@ -21,7 +23,9 @@ NO_NAMES = frozenset(
 
 @dataclass(frozen=True)
 class Lemma:
-    """A lemma: where it stands, its lines, and these as its signature, its lines of `unfolding`, and its clauses."""
+    """A lemma: where it stands, its lines, and these as its signature, its lines of `unfolding`, and its clauses.
+
+    The lines of one that stands in a module are those without `room`, by which they are set in."""
 
     path: Path
     first: int
@@ -29,6 +33,11 @@ class Lemma:
     name: str
     head: tuple[str, ...]
     clauses: tuple[tuple[str, ...], ...]
+    room: str = ""
+
+    def laid_in(self, lines: Iterable[str]) -> list[str]:
+        """Lines as they stand where the lemma does."""
+        return [self.room + it if it else it for it in lines]
 
     @property
     def key(self) -> tuple[Path, str]:
@@ -99,21 +108,39 @@ def block_end(lines: list[str], first: int) -> int:
     return end
 
 
-def lemmas_in(path: Path, text: str) -> list[Lemma]:
-    """The lemmas of a file with this text."""
-    lines, found, at = text.split("\n"), [], 0
+def in_module(path: Path, first: int, lines: list[str]) -> list[Lemma]:
+    """The lemmas of a module of these lines."""
+    head = next((at for at, line in enumerate(lines) if line.endswith(" where")), len(lines))
+    if any(line and not line.startswith("  ") for line in lines[head + 1 :]):
+        return []
+    inside = lemmas_among(path, [line[2:] for line in lines[head + 1 :]])
+    return [replace(it, first=it.first + first + head + 1, room=f"  {it.room}") for it in inside]
+
+
+def lemmas_among(path: Path, lines: list[str]) -> list[Lemma]:
+    """The lemmas of these lines, those in modules among them."""
+    found, at = [], 0
     while at < len(lines):
         line = lines[at]
         if not line or line[0].isspace() or line.startswith(("--", "use ", "pub use ", "mod ", "pub mod ", "}")):
             at += 1
             continue
         end = block_end(lines, at)
-        if re.match(r"(pub )?\S+ :", line) and not NO_LEMMA.match(line):
+        if line.startswith("module _ "):
+            found += in_module(path, at, lines[at:end])
+        elif re.match(r"(pub )?\S+ :", line) and not NO_LEMMA.match(line):
             lemma = lemma_of(path, at, lines[at:end])
             if lemma:
                 found.append(lemma)
         at = end
     return found
+
+
+def lemmas_in(path: Path, text: str) -> list[Lemma]:
+    """The lemmas of a file with this text, except for those in modules whose names stand there twice."""
+    found = lemmas_among(path, text.split("\n"))
+    times = Counter(it.name for it in found)
+    return [it for it in found if not it.room or times[it.name] == 1]
 
 
 def lemmas_of(path: Path) -> list[Lemma]:

@@ -55,7 +55,8 @@ def put(before: dict[Path, str], chosen: list[Made]) -> None:
     for path, text in before.items():
         lines = text.split("\n")
         for it in sorted((it for it in chosen if it.lemma.path == path), key=lambda it: -it.lemma.first):
-            lines[it.lemma.first : it.lemma.end] = [re.sub(r" steps \d+", "", line) for line in it.lines]
+            unbound = re.sub(r"\s+steps\s+\d+", "", "\n".join(it.lines))
+            lines[it.lemma.first : it.lemma.end] = it.lemma.laid_in(unbound.split("\n"))
         path.write_text("\n".join(lines), encoding="utf-8")
 
 
