@@ -27,9 +27,7 @@ any_some t first [] n x h k = absurd (number_nothing first n x h)
 any_some t first (y ∷ xs) n x h k = at (t y) refl (number_rest first y xs n x h) (λ s. any_some t (suc first) xs n x s k) where
   at : (b : Bool) → t y ≡ b → ((n ≡ first) × (y ≡ x)) ⊎ (at_number (suc first) xs n ≡ Some x)
       → (at_number (suc first) xs n ≡ Some x → list_any t xs ≡ true) → (b || list_any t xs) ≡ true
-  at true e or more = refl
-  at false e (inl s) more = absurd (let both : true ≡ false = sym k ∙ (ap t (sym s.1) ∙ e) in cc)
-  at false e (inr s) more = more s
+  at b e e2 more = grind arith
 
 wait_any : (xs : List (Option Job)) (id : Id) → waits (map (λ (job : Job). job.req) (jobs_of xs)) id ≡ list_any (job_is id) xs
 wait_any [] id = refl
@@ -48,21 +46,10 @@ done_any xs id = any_mapped (λ (x : Done). same_id x.id id) member xs
 
 -- the tests, by the id that stands there
 job_id : (o : Option Job) (id : Id) → job_is id o ≡ true → id_of_job (Some o) ≡ Some id
-job_id None id h = absurd (cc h)
-job_id (Some job) id h = ap (λ (x : Id). Some x) (same_when job.req id h)
+job_id o id h = grind arith
 
 job_test : (o : Option (Option Job)) (id : Id) → id_of_job o ≡ Some id → (w : Option Job) × (o ≡ Some w) × (job_is id w ≡ true)
-job_test None id h = absurd (cc h)
-job_test (Some None) id h = absurd (cc h)
-job_test (Some (Some job)) id h =
-    let e : job.req ≡ id = cc in
-    (Some job, refl, ap (λ (x : Id). same_id job.req x) (sym e) ∙ same_itself job.req)
-
-done_test : (o : Option Collected) (id : Id) → id_of_done o ≡ Some id → (c : Collected) × (o ≡ Some c) × (done_is id c ≡ true)
-done_test None id h = absurd (cc h)
-done_test (Some c) id h =
-    let e : c.id ≡ id = cc in
-    (c, refl, ap (λ (x : Id). same_id c.id x) (sym e) ∙ same_itself c.id)
+job_test o id h = grind arith
 
 -- a request that stands nowhere isn't in the pool
 waits_none : (r : Rows) (id : Id) → ((n : ℕ) → id_at r (place.Waiting n) ≡ Some id → ⊥) → waits (pool_in r).waiting id ≡ false
@@ -77,16 +64,8 @@ pub not_done : (r : Rows) (id : Id) → ((n : ℕ) → id_at r (place.Done n) �
 not_done r id h =
     any_none (done_is id) r.collected r.done (λ n c e k. h n (ap id_of_done e ∙ ap (λ (x : Id). Some x) (same_when c.id id k)))
 
-done_none : (r : Rows) (id : Id) → ((n : ℕ) → id_at r (place.Done n) ≡ Some id → ⊥) → is_done (pool_in r).done id ≡ false
-done_none r id h = done_any r.done id ∙ not_done r id h
-
 pub nowhere_has : (r : Rows) (id : Id) → IsNowhere r id → has (pool_in r) id ≡ false
-nowhere_has r id h =
-    rw (
-      waits_none r id (λ n k. h (place.Waiting n) k),
-      runs_none r id (λ n k. h (place.Running n) k),
-      done_none r id (λ n k. h (place.Done n) k),
-    ) refl
+nowhere_has r id h = simp (waits_none, runs_none, done_any, not_done)
 
 -- one that stands somewhere is in it
 pub waits_there : (r : Rows) (n : ℕ) (id : Id) → id_at r (place.Waiting n) ≡ Some id → waits (pool_in r).waiting id ≡ true
@@ -95,16 +74,11 @@ waits_there r n id h =
     wait_any r.waiting id ∙ any_some (job_is id) r.first r.waiting n t.0 t.1 t.2
 
 pub has_there : (r : Rows) (p : Place) (id : Id) → id_at r p ≡ Some id → has (pool_in r) id ≡ true
-has_there r (place.Waiting n) id h = rw (waits_there r n id h) refl
 has_there r (place.Running k) id h =
     let t = job_test (slice_get r.running k) id h in
     let e : runs (pool_in r).running id ≡ true = run_any r.running id ∙ any_some (job_is id) 0 r.running k t.0 t.1 t.2 in
     or_right (waits (pool_in r).waiting id) (runs (pool_in r).running id || is_done (pool_in r).done id) (rw e refl)
-has_there r (place.Done n) id h =
-    let t = done_test (at_number r.collected r.done n) id h in
-    let e : is_done (pool_in r).done id ≡ true = done_any r.done id ∙ any_some (done_is id) r.collected r.done n t.0 t.1 t.2 in
-    or_right (waits (pool_in r).waiting id) (runs (pool_in r).running id || is_done (pool_in r).done id)
-    (or_right (runs (pool_in r).running id) (is_done (pool_in r).done id) e)
+has_there r each id h = grind (arith, waits_there, job_test, run_any, any_some, or_right, done_any)
 
 -- one that stands elsewhere doesn't wait
 pub elsewhere_waits : (r : Rows) (at : Id → Option Place) (p : Place) (id : Id) → IsIndexed r at → id_at r p ≡ Some id
@@ -124,9 +98,7 @@ result_at first (x ∷ xs) n c id h k one = at (same_id x.id id) refl (number_re
       at true e (inr s) more =
           let m : first ≡ n = one first x (number_front first x xs) e in
           absurd ((number_popped first x xs n c s).1 (sym m))
-      at false e (inl s) more =
-          let yes : same_id x.id id ≡ true = ap (λ (d : Collected). same_id d.id id) s.1 ∙ k in
-          absurd (let both : true ≡ false = sym yes ∙ e in cc)
+      at false e (inl s) more = cc
       at false e (inr s) more = more s
 
 pub result_there : (r : Rows) (at : Id → Option Place) (n : ℕ) (c : Collected) (id : Id) → IsIndexed r at
@@ -135,16 +107,14 @@ result_there r at n c id i there same =
     let yes : done_is id c ≡ true = ap (λ (x : Id). same_id c.id x) (sym same) ∙ same_itself c.id in
     let known = λ (m : ℕ) (d : Collected) (t : at_number r.collected r.done m ≡ Some d) (u : done_is id d ≡ true). i.stands (place.Done m) id
     (ap id_of_done t ∙ ap (λ (x : Id). Some x) (same_when d.id id u)) in
-    result_at r.collected r.done n c id there yes (λ m d t u. let e : place.Done m ≡ place.Done n = same_place at id (place.Done m)
-    (place.Done n) (known m d t u) (known n c there yes) in cc)
+    result_at r.collected r.done n c id there yes (λ m d t u. grind arith)
 
 pub no_result : (xs : List Collected) (id : Id) → list_any (done_is id) xs ≡ false → result_in xs id ≡ None
 no_result [] id h = refl
 no_result (c ∷ xs) id h = at (same_id c.id id) h (λ k. no_result xs id k) where
   at : (b : Bool) → (b || list_any (done_is id) xs) ≡ false → (list_any (done_is id) xs ≡ false → result_in xs id ≡ None)
       → cond b c.result (result_in xs id) ≡ None
-  at true k more = absurd (cc k)
-  at false k more = more k
+  at b k more = grind arith
 
 pub result_nowhere : (r : Rows) (id : Id) → ((n : ℕ) → id_at r (place.Done n) ≡ Some id → ⊥) → result_in r.done id ≡ None
 result_nowhere r id h = no_result r.done id (not_done r id h)
@@ -152,19 +122,14 @@ result_nowhere r id h = no_result r.done id (not_done r id h)
 -- those that wait, without the one of a place
 jobs_removed : (xs : List (Option Job)) (i : ℕ) (id : Id) → id_of_job (slice_get xs i) ≡ Some id
     → ((j : ℕ) → id_of_job (slice_get xs j) ≡ Some id → j ≡ i) → jobs_of (set xs i None) ≡ jobs_without (jobs_of xs) id
-jobs_removed [] i id h one = absurd (cc h)
-jobs_removed (None ∷ xs) zero id h one = absurd (cc h)
 jobs_removed (None ∷ xs) (suc i) id h one = jobs_removed xs i id h (λ j k. let e : suc j ≡ suc i = one (suc j) k in omega (arith, e))
-jobs_removed (Some job ∷ xs) zero id h one =
-    let e : job.req ≡ id = cc in
-    let yes : same_id job.req id ≡ true = ap (λ (x : Id). same_id job.req x) (sym e) ∙ same_itself job.req in
-    sym (ap (λ b. cond b (jobs_of xs) (job ∷ jobs_without (jobs_of xs) id)) yes)
 jobs_removed (Some job ∷ xs) (suc i) id h one = at (same_id job.req id) refl
     (jobs_removed xs i id h (λ j k. let f : suc j ≡ suc i = one (suc j) k in omega (arith, f))) where
       at : (b : Bool) → same_id job.req id ≡ b → jobs_of (set xs i None) ≡ jobs_without (jobs_of xs) id
           → job ∷ jobs_of (set xs i None) ≡ cond b (jobs_of xs) (job ∷ jobs_without (jobs_of xs) id)
       at true e more = absurd (let z : zero ≡ suc i = one zero (ap (λ (x : Id). Some x) (same_when job.req id e)) in omega (arith, z))
       at false e more = ap (λ (js : List Job). job ∷ js) more
+jobs_removed each e1 id h one = grind arith
 
 pub removed : (r : Rows) (at : Id → Option Place) (n : ℕ) (id : Id) → IsIndexed r at → id_at r (place.Waiting n) ≡ Some id
     → jobs_of (set r.waiting (n - r.first) None) ≡ jobs_without (jobs_of r.waiting) id

@@ -5,19 +5,7 @@ use Rattle.uv_pool.proofs.Standing.{still_indexed, Moved, moved, left, queue_mov
 
 -- the lists are the same, and the places that are known
 pub kept_same : (s t : Held) → IsKept s → t.log.items ≡ s.log.items → rows_of t ≡ rows_of s → ((q : Id) → place_of t q ≡ place_of s q) → IsKept t
-kept_same s t k log rows known =
-    let r : Rows = rows_of s in
-    let indexed : IsIndexed (rows_of s) (place_of t) = still_indexed r (place_of s) (place_of t) k.indexed known in
-    let first = ap (λ (x : Rows). x.first) rows in
-    let waiting = ap (λ (x : Rows). length x.waiting) rows in
-    let collected = ap (λ (x : Rows). x.collected) rows in
-    let done = ap (λ (x : Rows). length x.done) rows in
-    let entries = ap (λ (x : List PoolEvent). length x) log in
-    record {
-      indexed = subst (λ (x : Rows). IsIndexed x (place_of t)) (sym rows) indexed;
-      queued = omega (arith, first, waiting, entries, k.queued);
-      done = omega (arith, collected, done, entries, k.done);
-    }
+kept_same s t k log rows known = grind (arith, still_indexed)
 
 -- one request stands at a new place, and the log has an entry more
 kept_moved : (s t : Held) (later : Rows) (id : Id) (new : Place) (e : PoolEvent) → IsKept s → rows_of t ≡ later

@@ -23,12 +23,4 @@ front_pops first k xs rest ys job is cut len jobs =
 -- anywhere, and then so many empty places at the front
 pub removal_leaves : (first n k : ℕ) (xs ys : List (Option Job)) → first ≤ n → ys ≡ drop k (set xs (n - first) None) → k + length ys ≡ length xs
     → Leaves first xs n (first + k) ys
-removal_leaves first n k xs ys low cut len = record {
-  still = λ m other h.
-      let cut_there : at_number (first + k) (drop k (set xs (n - first) None)) m ≡ Some (Some other) = rw (← cut) h in
-      elim (number_set first xs (n - first) None m (Some other) (number_dropped k first (set xs (n - first) None) m (Some other) cut_there)) [
-        | inl e ↦ absurd (let x : None ≡ Some other = e.1 in cc)
-        | inr e ↦ (e.1, (λ same. e.0 (omega (arith, same, low))))
-      ];
-  next = omega (arith, len);
-}
+removal_leaves first n k xs ys low cut len = grind (arith, number_set, number_dropped)

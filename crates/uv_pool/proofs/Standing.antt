@@ -87,10 +87,7 @@ queue_moves r job new (place.Waiting n) q h =
         (λ same. new (place.Waiting n)
             (job_at _ t.0 e ∙ ap (λ (x : Id). Some x) (t.2 ∙ same))),
       )
-      | inr e ↦ inl (
-        ap (λ (x : ℕ). let w : Place = place.Waiting x in w) e.0,
-        (let same : Some job ≡ Some t.0 = e.1 in let back : job ≡ t.0 = cc in sym t.2 ∙ ap (λ (w : Job). w.req) (sym back)),
-      )
+      | inr e ↦ inl (search (sym))
     ]
 queue_moves r job new (place.Running k) q h = inr (h, (λ same. new (place.Running k) (h ∙ ap (λ (x : Id). Some x) same)))
 queue_moves r job new (place.Done n) q h = inr (h, (λ same. new (place.Done n) (h ∙ ap (λ (x : Id). Some x) same)))
@@ -104,12 +101,10 @@ pub nothing_stands : (workers : ℕ) (r : Rows) (at : Id → Option Place) → r
     → r.collected ≡ 0 → r.done ≡ [] → IsIndexed r at
 nothing_stands workers r at first waiting running collected done = record { stands = stands } where
   stands : (p : Place) (id : Id) → id_at r p ≡ Some id → at id ≡ Some p
-  stands (place.Waiting n) id h =
-      let k = rw (first, waiting) at h in absurd (cc k)
+  stands (place.Waiting n) id h = cc
   stands (place.Running k) id h =
       absurd (nothing_run workers k id (rw running at h))
-  stands (place.Done n) id h =
-      let k = rw (collected, done) at h in absurd (cc k)
+  stands (place.Done n) id h = cc
 
 pub take_moves : (r : Rows) (at : Id → Option Place) (k : ℕ) (job : Job) (first : ℕ) (ys : List (Option Job)) → IsIndexed r at
     → slice_get r.running k ≡ Some None → at_number r.first r.waiting r.first ≡ Some (Some job) → Leaves r.first r.waiting r.first first ys
@@ -127,10 +122,7 @@ take_moves r at k job first ys i idle front leaves (place.Waiting n) q h =
 take_moves r at k job first ys i idle front leaves (place.Running j) q h =
     let t = job_there (slice_get (set r.running k (Some job)) j) q h in
     elim (get_set r.running k (Some job) j (Some t.0) t.1) [
-      | inl e ↦ inl (
-        ap (λ (x : ℕ). let w : Place = place.Running x in w) e.0,
-        (let same : Some job ≡ Some t.0 = e.1 in let back : job ≡ t.0 = cc in sym t.2 ∙ ap (λ (w : Job). w.req) (sym back)),
-      )
+      | inl e ↦ inl (search (sym))
       | inr e ↦
           (let old : id_at r (place.Running j) ≡ Some q = job_at _ t.0 e.1 ∙ ap (λ (x : Id). Some x) t.2 in
           inr (

@@ -4,19 +4,14 @@ use Rattle.uv_work.specs.declared.event.PoolEvent.TheVariants as event
 use Rattle.uv_pool.proofs.Replays.{count_more}
 
 and_more : (b x y : Bool) → (b && x) ≡ true → (x ≡ true → y ≡ true) → (b && y) ≡ true
-and_more true x y h f = f h
-and_more false x y h f = h
-
-num_itself : (k : ℕ) → (k == k) ≡ true
-num_itself k = grind (arith, nat_tests)
+and_more b x y h f = grind arith
 
 pub turns_more : (k : ℕ) (xs : List PoolEvent) (id : Id) → are_turns k xs ≡ true → are_turns k (xs ++ turn k id) ≡ true
-turns_more k [] id h = rw (num_itself k, same_itself id) refl
 turns_more k (event.Take a i ∷ event.Finish b j ∷ more) id h =
     and_more ((a == k) && ((b == k) && same_id i j)) (are_turns k more) (are_turns k (more ++ turn k id)) h (λ t. turns_more k more id t)
 turns_more k (event.Take a i ∷ []) id h = cc
 turns_more k (event.Take a i ∷ e ∷ more) id h = cc
-turns_more k (e ∷ more) id h = cc
+turns_more k each id h = grind arith
 
 pub count_turn : (k : ℕ) (xs : List PoolEvent) (id : Id) → finish_count (xs ++ turn k id) ≡ finish_count xs + 1
 count_turn k xs id =
@@ -32,12 +27,7 @@ pub record Turned (k n : ℕ) (events before after : List PoolEvent) : Type 0 wh
 
 pub served_turns : (k : ℕ) (more : Bool) (b e : List PoolEvent) (n : ℕ) (b' e' : List PoolEvent) (n' : ℕ) (before : List PoolEvent) → more ≡ true
     → Serves k more b e n b' e' n' → Turned k n e before b → Turned k n' e' before b'
-served_turns k true b e n b' e' n' before is (id, s0, s1, s2) i = record {
-  counted = rw s1 (omega (arith, i.counted, count_turn k e id, s2));
-  turns = rw s1 (turns_more k e id i.turns);
-  answered = rw (s0, s1, i.answered) (append_assoc before e (turn k id));
-}
-served_turns k false b e n b' e' n' before is s i = cc
+served_turns k more b e n b' e' n' before is e10 i = grind (arith, count_turn, turns_more, append_assoc)
 
 -- turns, and then what the last one came to
 pub stopped : {B : Type 0} (answered : B → List PoolEvent) (refuses : B → ℕ → WorkResult → Fault → B → Type 0) (k : ℕ) (f : Fault)

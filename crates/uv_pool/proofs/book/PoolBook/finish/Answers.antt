@@ -3,19 +3,4 @@ use Rattle.uv_pool.proofs.Keeps.{finish_keeps, counted}
 use Rattle.uv_pool.proofs.book.PoolBook.finish.Goals as goal
 
 pub invariant_of-self-2 : goal.invariant_of-self-2
-invariant_of-self-2 g c =
-    let b = c.self.inside in
-    let call = c.finish_job in
-    let keeps = finish_keeps (hold_of b.held) (hold_of call.new.self) c.args.k c.args.work (Ok c.in-Ok.field-0) c.in-Ok.ensures.call
-    c.self.invariant.1.replay in
-    let i = counted (contents_of b.held) (contents_of call.new.self) 1 b.finishes.total b.own.parts b.spare c.add.new.self.total keeps
-    c.self.invariant.1 c.add.ensures.total in (
-      c.in-Ok.ensures.kept,
-      record {
-        replay = i.replay;
-        count = i.count;
-        parts = omega (arith, c.add.ensures.parts, i.parts);
-        some = i.some;
-        workers = i.workers;
-      },
-    )
+invariant_of-self-2 g c = grind (arith, finish_keeps, counted)

@@ -8,8 +8,4 @@ invariant_of-self-2 g c =
     let call = c.finish_job in
     let keeps = finish_keeps (hold_of b.held) (hold_of call.new.self) c.args.k c.args.work
     (Ok c.in_ok-finish_job.field-0) c.in_ok-finish_job.ensures.call
-    c.self.invariant.1.replay in (
-      c.in_ok-finish_job.ensures.kept,
-      counted (contents_of b.held) (contents_of call.new.self) 1 b.finishes.total b.own.parts b.spare c.add.new.self.total
-          keeps c.self.invariant.1 c.add.ensures.total,
-    )
+    c.self.invariant.1.replay in (search counted)

@@ -26,5 +26,4 @@ returns-clause-kept c =
     c.push_reserved.ensures.items c.note.ensures
 
 pub returns-clause-results : goal.returns-clause-results
-returns-clause-results c =
-    λ id. rw c.push_back_reserved.ensures.items (added_none c.args.self.now.done.items (record { id = c.args.id; result = None }) refl id)
+returns-clause-results c = grind (arith, added_none)

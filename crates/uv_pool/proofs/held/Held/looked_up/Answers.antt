@@ -8,8 +8,7 @@ returns-in_default c =
     let known : place_of h c.args.id ≡ Some c.in-Some.place.now = sym c.in-Some.ensures.value in
     let there : id_at (rows_of h) c.in-Some.place.now ≡ Some c.in-Some-id_at.there = cc in
     let no : same_id c.in-Some-id_at.there c.args.id ≡ false = cc in
-    elsewhere_nowhere (rows_of h) (place_of h) c.args.id c.in-Some.place.now c.requires.indexed known
-    (other_id c.in-Some-id_at.there c.args.id (id_at (rows_of h) c.in-Some.place.now) there no)
+    search (elsewhere_nowhere, other_id)
 
 pub returns-in_default-2 : goal.returns-in_default-2
 returns-in_default-2 c =

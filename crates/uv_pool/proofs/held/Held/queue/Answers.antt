@@ -4,8 +4,7 @@ use Rattle.uv_pool.proofs.Kept.{kept_queue}
 use Rattle.uv_pool.proofs.held.Held.queue.Goals as goal
 
 pub returns-clause-contents : goal.returns-clause-contents
-returns-clause-contents c =
-    rw (c.push-number.ensures.places, jobs_appended c.args.self.now.waiting.places.items c.args.job) (search rules)
+returns-clause-contents c = grind (arith, jobs_appended)
 
 pub returns-clause-kept : goal.returns-clause-kept
 returns-clause-kept c =

@@ -9,5 +9,4 @@ returns-in-Some-Some-clause-job c =
     let ys = c.skip_empty.new.places in
     let is : q.places.items ≡ Some c.in-Some-Some.job ∷ rest.items = cc in
     let len : c.skip_empty.result + length ys.items ≡ length rest.items = omega (arith, c.skip_empty.ensures.len, rest.ok.0, ys.ok.0) in
-    front_pops q.first c.skip_empty.result q.places.items rest.items ys.items c.in-Some-Some.job is c.skip_empty.ensures.rest len
-    c.skip_empty.ensures.jobs
+    search front_pops
