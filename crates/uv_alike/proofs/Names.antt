@@ -3,9 +3,9 @@ pub use Rattle.uv_model.proofs.Names.{Blocked, Bool, Callback, CallbackLine, Cal
 pub use Rattle.uv_script.proofs.ProofNames.{Mode, ap₂, inl, inr, length-map, main_op, map, map-append, min, not, op_at, op_name, option_map, slice_get-map, ◌-◌, ◌||◌, ◌⊎◌}
 pub use Rattle.std.proofs.Common.{is_some}
 pub use Rattle.std.proofs.lemmas.List.{drop-map, map-set, set-set}
-pub use Rattle.uv_alike.specs.Asks.{cancels, cancels_at, cancels_line, cancels_main, cancels_op, cancels_run, line_reads_clock, main_reads_clock, op_reads_clock, place_asks_done, place_reads_clock, reads_clock, run_asks_done, run_reads_clock, stage_asks_done, stage_reads_clock}
-pub use Rattle.uv_alike.specs.Changed.{Change, Comes, changed, changed_answer, changed_arena, changed_body, changed_callback, changed_content, changed_entry, changed_event, changed_handle, changed_job, changed_line, changed_live, changed_main, changed_next, changed_op, changed_pair, changed_place, changed_program, changed_request, changed_run, changed_stage, changed_walk, same}
-pub use Rattle.uv_alike.specs.Hides.{Hides, IsExact, IsWhole, IsWork, SeesAlike}
+pub use Rattle.uv_alike.specs.Asks.{cancels, cancels_at, cancels_line, cancels_main, cancels_op, cancels_run, line_reads_clock, main_reads_clock, op_reads_clock, place_reads_clock, reads_clock, run_reads_clock, stage_reads_clock}
+pub use Rattle.uv_alike.specs.Changed.{Change, Comes, changed, changed_answer, changed_arena, changed_body, changed_callback, changed_content, changed_entry, changed_event, changed_handle, changed_line, changed_live, changed_main, changed_op, changed_place, changed_program, changed_request, changed_run, changed_stage, changed_walk, same, Times, same_times, unchanged, next_map, state_map}
+pub use Rattle.uv_alike.specs.Hides.{Hides, IsExact, IsWhole, IsWork, HidesTimes}
 pub use Rattle.uv_ids.specs.declared.phase.Mode.TheVariants.{Default, Nowait, Once}
 pub use Rattle.uv_ids.specs.declared.seen.Site.{Site}
 pub use Rattle.uv_model.specs.Ids.{has_some}

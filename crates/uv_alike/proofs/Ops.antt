@@ -1,5 +1,5 @@
 -- What the parts of a step are from a changed state: who is found, what is put, timers, names, and each op.
-use Rattle.uv_alike.proofs.Names.{if◌then◌else◌, ◌≡◌, ◌++◌, ℕ, ◌+◌, ◌==◌, ◌&&◌, List, [], ◌∷◌, drop, Bool, true, false, Option, Some, None, Result, Ok, Err, refl, ap, ap₂, sym, ◌∙◌, arith, nat_le, list_any, Id, Due, due_cmp, match_ordering, Ordering, Less, Equal, Greater, Var, Kind, Code, Slots, Content, State, Program, HandleRecord, Request, Outcome, Task, WatcherKind, Op, same_id, without_id, handle, request, handle_in, request_in, held, front, front_request, with_id, with_held, with_handle, with_request, named, live, live_handle, live_request, live_id, as_handle, as_request, with_timer, without_timer, taken_off, stopped, started, restarted, begun_at, found_or, is_async, inited, activated, repeating, referenced_as, watcher_kind, no_refusal, timer_refusal, start_timer_refusal, start_watcher_refusal, stop_refusal, again_refusal, close_refusal, send_refusal, with_first, with_last, queued, next_free, taken, freed, arena_size, with_watched, watched, refreshed, refuses, do_op, ◌||◌, ◌-◌, map, option_map, is_some, min, drop-map, map-append, set-set, Mode, Default, Once, Nowait, Site, op_at, only_if, is_startable, invalid_if, is_timer, Cancelled, has_some, LONGEST_POLL, is_alive, has_closing, has_idle, until_first, backend_timeout, poll_timeout, deadline_of, has_passed, Coded, first_due, collected, Change, changed, changed_handle, changed_request, changed_content, changed_entry, changed_pair, changed_job, changed_live, changed_arena, changed_walk, changed_op, changed_answer, cancels, cancels_op, place_asks_done, reads_clock, op_reads_clock, Hides, IsWhole}
+use Rattle.uv_alike.proofs.Names.{if◌then◌else◌, ◌≡◌, ◌++◌, ℕ, ◌+◌, ◌==◌, ◌&&◌, List, [], ◌∷◌, drop, Bool, true, false, Option, Some, None, Result, Ok, Err, refl, ap, ap₂, sym, ◌∙◌, arith, nat_le, list_any, Id, Due, due_cmp, match_ordering, Ordering, Less, Equal, Greater, Var, Kind, Code, Slots, Content, State, Program, HandleRecord, Request, Outcome, Task, WatcherKind, Op, same_id, without_id, handle, request, handle_in, request_in, held, front, front_request, with_id, with_held, with_handle, with_request, named, live, live_handle, live_request, live_id, as_handle, as_request, with_timer, without_timer, taken_off, stopped, started, restarted, begun_at, found_or, is_async, inited, activated, repeating, referenced_as, watcher_kind, no_refusal, timer_refusal, start_timer_refusal, start_watcher_refusal, stop_refusal, again_refusal, close_refusal, send_refusal, with_first, with_last, queued, next_free, taken, freed, arena_size, with_watched, watched, refreshed, refuses, do_op, ◌||◌, ◌-◌, map, option_map, is_some, min, drop-map, map-append, set-set, Mode, Default, Once, Nowait, Site, op_at, only_if, is_startable, invalid_if, is_timer, Cancelled, has_some, LONGEST_POLL, is_alive, has_closing, has_idle, until_first, backend_timeout, poll_timeout, deadline_of, has_passed, Coded, first_due, collected, Change, changed, changed_handle, changed_request, changed_content, changed_entry, changed_live, changed_arena, changed_walk, changed_op, changed_answer, cancels, cancels_op, reads_clock, op_reads_clock, Hides, IsWhole, Stage, Poll, Polled, Run, Body, Place, Main, Running}
 use Rattle.std.specs.BTreeMap.{is_at}
 use Rattle.uv_ids.specs.declared.code.Answer.TheVariants as answer
 use Rattle.uv_ids.specs.declared.code.Code.TheVariants.{Ok as Success, Efull}
@@ -12,6 +12,22 @@ use Rattle.uv_work.specs.declared.content.Content.TheVariants as content
 use Rattle.uv_model.specs.Ops as ops
 use Rattle.uv_model.specs.Next as steps
 use Rattle.uv_alike.proofs.Cases.{if_shift}
+
+-- ---- whether it asks who is done
+
+-- where no body is under way: the poll asks whether a request is done, and behind a woken one those that are done are set aside
+abbrev pub stage_asks_done : Stage → Bool
+stage_asks_done (Poll deadline) = true
+stage_asks_done (Polled woken) = woken
+stage_asks_done _ = false
+
+abbrev pub run_asks_done : Run → Option Body → Bool
+run_asks_done run None = stage_asks_done run.stage
+run_asks_done run (Some body) = false
+
+abbrev pub place_asks_done : Place → Bool
+place_asks_done (Main line) = false
+place_asks_done (Running run) = run_asks_done run run.body
 
 -- ---- what is found, and found changed
 
@@ -59,12 +75,19 @@ module _ (c : Change) where
   some_changed [] = refl
   some_changed (id ∷ ids) = refl
 
+  -- who is found
+  abbrev pub changed_pair : Id × HandleRecord → Id × HandleRecord
+  changed_pair t = (c.id t.0, changed_handle c t.1)
+
+  abbrev pub changed_job : Id × Request → Id × Request
+  changed_job t = (c.id t.0, changed_request c t.1)
+
   abbrev pub found_handle : Result (Id × HandleRecord) Code → Result (Id × HandleRecord) Code
-  found_handle (Ok t) = Ok (changed_pair c t)
+  found_handle (Ok t) = Ok (changed_pair t)
   found_handle (Err code) = Err code
 
   abbrev pub found_request : {E : Type 0} → Result (Id × Request) E → Result (Id × Request) E
-  found_request (Ok t) = Ok (changed_job c t)
+  found_request (Ok t) = Ok (changed_job t)
   found_request (Err why) = Err why
 
   -- ---- what a step may ask
@@ -90,7 +113,7 @@ module _ (c : Change) where
       ≡ done_changed o (ops.cancel s (live_request s v))
 
   abbrev pub Clocks : State → Type 0
-  Clocks s = (c.clock s.clock ≡ c.time s.clock) × ((n : ℕ) → nat_le (c.time n) (c.clock s.clock) ≡ nat_le n s.clock)
+  Clocks s = (c.clock s.clock ≡ c.times.time s.clock) × ((n : ℕ) → nat_le (c.times.time n) (c.clock s.clock) ≡ nat_le n s.clock)
 
   abbrev pub AreDone : State → Type 0
   AreDone s = (c.ends [] ≡ []) × (c.ends s.done.list ≡ map c.id s.done.list)
@@ -100,7 +123,7 @@ module _ (c : Change) where
     pub handles : (id : Id) → handle (changed c s) (c.id id) ≡ option_map (changed_handle c) (handle s id)
     pub puts : (id : Id) (h : HandleRecord) → handle s id ≡ Some h → Puts s id
     pub frees : (id : Id) (h : HandleRecord) → handle s id ≡ Some h → Frees p s id
-    pub found : front_request (changed c s) (map c.id s.done.yet) ≡ option_map (changed_job c) (front_request s s.done.yet)
+    pub found : front_request (changed c s) (map c.id s.done.yet) ≡ option_map changed_job (front_request s s.done.yet)
     pub collects : (t : Id × Request) → front_request s s.done.yet ≡ Some t → Frees p s t.0
     pub lives : (v : Var) → live_handle (changed c s) (c.var v) ≡ found_handle (live_handle s v)
     pub is_live : (v : Var) → is_some (live (changed c s) (c.var v)) ≡ is_some (live s v)
@@ -117,31 +140,32 @@ module _ (c : Change) where
     without_changed (x ∷ xs) id = grind (arith, if_shift, (without_changed xs id), hides.same)
 
     insert_changed : (ts : List (Due × Id)) (due : Due) (id : Id) →
-        with_timer (map (changed_entry c) ts) (c.due due) (c.id id) ≡ map (changed_entry c) (with_timer ts due id)
+        with_timer (map (changed_entry c) ts) (c.times.due due) (c.id id) ≡ map (changed_entry c) (with_timer ts due id)
     insert_changed [] due id = refl
     insert_changed (t ∷ ts) due id =
-        ap (λ x. match_ordering x ((c.due due, c.id id) ∷ changed_entry c t ∷ map (changed_entry c) ts)
-        ((c.due t.0, c.id id) ∷ map (changed_entry c) ts)
-        (changed_entry c t ∷ with_timer (map (changed_entry c) ts) (c.due due) (c.id id))) (hides.order due t.0)
+        ap (λ x. match_ordering x ((c.times.due due, c.id id) ∷ changed_entry c t ∷ map (changed_entry c) ts)
+        ((c.times.due t.0, c.id id) ∷ map (changed_entry c) ts)
+        (changed_entry c t ∷ with_timer (map (changed_entry c) ts) (c.times.due due) (c.id id))) (hides.times.order due t.0)
         ∙ by (due_cmp due t.0) (insert_changed ts due id) where
-          by : (x : Ordering) → with_timer (map (changed_entry c) ts) (c.due due) (c.id id) ≡ map (changed_entry c) (with_timer ts due id) →
-              match_ordering x ((c.due due, c.id id) ∷ changed_entry c t ∷ map (changed_entry c) ts)
-              ((c.due t.0, c.id id) ∷ map (changed_entry c) ts)
-              (changed_entry c t ∷ with_timer (map (changed_entry c) ts) (c.due due) (c.id id))
+          by : (x : Ordering) → with_timer (map (changed_entry c) ts) (c.times.due due) (c.id id) ≡ map (changed_entry c) (with_timer ts due id) →
+              match_ordering x ((c.times.due due, c.id id) ∷ changed_entry c t ∷ map (changed_entry c) ts)
+              ((c.times.due t.0, c.id id) ∷ map (changed_entry c) ts)
+              (changed_entry c t ∷ with_timer (map (changed_entry c) ts) (c.times.due due) (c.id id))
               ≡ map (changed_entry c) (match_ordering x ((due, id) ∷ t ∷ ts) ((t.0, id) ∷ ts) (t ∷ with_timer ts due id))
           by Less h = refl
           by Equal h = refl
           by Greater h = ap (λ us. changed_entry c t ∷ us) h
 
     remove_changed : (ts : List (Due × Id)) (due : Due) →
-        without_timer (map (changed_entry c) ts) (c.due due) ≡ map (changed_entry c) (without_timer ts due)
+        without_timer (map (changed_entry c) ts) (c.times.due due) ≡ map (changed_entry c) (without_timer ts due)
     remove_changed [] due = refl
-    remove_changed (t ∷ ts) due = if_shift (map (changed_entry c)) (is_at (due_cmp due) t.0) (is_at (due_cmp (c.due due)) (c.due t.0)) _ _ _ _
-        (ap is_equal (hides.order due t.0)) refl (ap (λ us. changed_entry c t ∷ us) (remove_changed ts due)) where
+    remove_changed (t ∷ ts) due = if_shift (map (changed_entry c)) (is_at (due_cmp due) t.0) (is_at (due_cmp (c.times.due due)) (c.times.due t.0))
+        _ _ _ _
+        (ap is_equal (hides.times.order due t.0)) refl (ap (λ us. changed_entry c t ∷ us) (remove_changed ts due)) where
           is_equal : Ordering → Bool
           is_equal x = is_at (λ (u : Unit {0}). x) tt
 
-    off_changed : (ts : List (Due × Id)) (timer active : Bool) (due due' : Due) → (timer && active ≡ true → due' ≡ c.due due) →
+    off_changed : (ts : List (Due × Id)) (timer active : Bool) (due due' : Due) → (timer && active ≡ true → due' ≡ c.times.due due) →
         (if timer && active then without_timer (map (changed_entry c) ts) due' else map (changed_entry c) ts)
         ≡ map (changed_entry c) (if timer && active then without_timer ts due else ts)
     off_changed ts true true due due' same = ap (without_timer (map (changed_entry c) ts)) (same refl) ∙ remove_changed ts due
@@ -150,8 +174,9 @@ module _ (c : Change) where
     off_changed ts false false due due' same = refl
 
     -- only an active timer is on the order of timers
-    due_changed : (timer active : Bool) (k : Kind) (due : Due) → is_timer k ≡ timer → timer && active ≡ true → c.due_in active k due ≡ c.due due
-    due_changed true true k due e f = hides.ticks k due e
+    due_changed : (timer active : Bool) (k : Kind) (due : Due) → is_timer k ≡ timer → timer && active ≡ true
+        → c.times.due_in active k due ≡ c.times.due due
+    due_changed true true k due e f = hides.times.ticks k due e
     due_changed true false k due e f = absurd (let g : ⊥ = cc in g)
     due_changed false true k due e f = absurd (let g : ⊥ = cc in g)
     due_changed false false k due e f = absurd (let g : ⊥ = cc in g)
@@ -159,7 +184,7 @@ module _ (c : Change) where
     taken_off_changed : (u : State) (id : Id) (h : HandleRecord) → taken_off (changed c u) (c.id id) (changed_handle c h)
         ≡ changed c (taken_off u id h)
     taken_off_changed u id h =
-        let due = c.due_in h.active h.kind h.due in
+        let due = c.times.due_in h.active h.kind h.due in
         ap (λ ts. record (taken_off (changed c u) (c.id id) (changed_handle c h)) { timers = ts })
         (off_changed u.timers (is_timer h.kind) h.active h.due due (due_changed (is_timer h.kind) h.active h.kind h.due refl))
         ∙ simp without_changed
@@ -180,17 +205,17 @@ module _ (c : Change) where
         stopped (changed c s) (c.id id) (changed_handle c h) ≡ changed c (stopped s id h)
     stopped_changed id h puts =
         ap₂ (λ u x. with_handle u (c.id id) (record (records.stopped h) { name = c.var h.name; due = x })) (taken_off_changed s id h)
-        (sym (hides.rests false h.kind _ refl))
+        (sym (hides.times.rests false h.kind _ refl))
         ∙ put_changed (taken_off s id h) id (records.stopped h) puts
 
     abbrev Due_at : State → ℕ → Type 0
-    Due_at u timeout = due_after (c.time u.time) (c.start u.next_start) timeout ≡ c.due (due_after u.time u.next_start timeout)
+    Due_at u timeout = due_after (c.times.time u.time) (c.times.start u.next_start) timeout ≡ c.times.due (due_after u.time u.next_start timeout)
 
     abbrev Begins : HandleRecord → Type 0
-    Begins h = (due : Due) → c.due_in true h.kind due ≡ c.due due
+    Begins h = (due : Due) → c.times.due_in true h.kind due ≡ c.times.due due
 
     abbrev More : State → Type 0
-    More u = c.start (u.next_start + 1) ≡ c.start u.next_start + 1
+    More u = c.times.start (u.next_start + 1) ≡ c.times.start u.next_start + 1
 
     started_changed : (u : State) (id : Id) (h : HandleRecord) (timeout repeat : ℕ) → Puts u id → Due_at u timeout → Begins h → More u →
         started (changed c u) (c.id id) (changed_handle c h) timeout repeat ≡ changed c (started u id h timeout repeat)
@@ -198,7 +223,7 @@ module _ (c : Change) where
         let due = due_after u.time u.next_start timeout in
         ap₂ (λ x n. with_handle (record (changed c u) { timers = with_timer (map (changed_entry c) u.timers) x (c.id id); next_start = n }) (c.id id)
         (begun_at x repeat (changed_handle c h))) at (sym more)
-        ∙ ap₂ (λ ts x. with_handle (record (changed c u) { timers = ts; next_start = c.start (u.next_start + 1) }) (c.id id)
+        ∙ ap₂ (λ ts x. with_handle (record (changed c u) { timers = ts; next_start = c.times.start (u.next_start + 1) }) (c.id id)
         (record (begun_at due repeat h) { name = c.var h.name; due = x })) (insert_changed u.timers due id) (sym (begins due))
         ∙ put_changed (record u { timers = with_timer u.timers due id; next_start = u.next_start + 1 }) id (begun_at due repeat h) puts
 
@@ -213,13 +238,13 @@ module _ (c : Change) where
         ap₂ (λ (ts : List (Due × Id)) (ids : List Id). with_handle (record (changed c s) { timers = ts; ready = ids }) (c.id id)
         (records.stopped (changed_handle c h))) (drop-map (changed_entry c) 1 s.timers) (sym (map-append c.id s.ready (id ∷ [])))
         ∙ ap (λ x. with_handle (changed c (record s { timers = drop 1 s.timers; ready = s.ready ++ id ∷ [] })) (c.id id)
-        (record (records.stopped h) { name = c.var h.name; due = x })) (sym (hides.rests false h.kind _ refl))
+        (record (records.stopped h) { name = c.var h.name; due = x })) (sym (hides.times.rests false h.kind _ refl))
         ∙ put_changed (record s { timers = drop 1 s.timers; ready = s.ready ++ id ∷ [] }) id (records.stopped h) puts
 
     -- ---- who is found
 
     with_id_changed : (id : Id) (o : Option HandleRecord) → with_id (c.id id) (option_map (changed_handle c) o)
-        ≡ option_map (changed_pair c) (with_id id o)
+        ≡ option_map changed_pair (with_id id o)
     with_id_changed id None = refl
     with_id_changed id (Some h) = refl
 
@@ -234,9 +259,9 @@ module _ (c : Change) where
     pub alive : is_alive (changed c s) ≡ is_alive s
     alive = ap₂ (λ a b. a || b) hides.keeps closes
 
-    until_changed : (ts : List (Due × Id)) → until_first (c.time s.time) (map (changed_entry c) ts) ≡ until_first s.time ts
+    until_changed : (ts : List (Due × Id)) → until_first (c.times.time s.time) (map (changed_entry c) ts) ≡ until_first s.time ts
     until_changed [] = refl
-    until_changed (t ∷ ts) = ap (λ n. Some (min n LONGEST_POLL)) (hides.left t.0)
+    until_changed (t ∷ ts) = ap (λ n. Some (min n LONGEST_POLL)) (hides.times.left t.0)
 
     backend_changed : backend_timeout (changed c s) ≡ backend_timeout s
     backend_changed =
@@ -251,14 +276,14 @@ module _ (c : Change) where
     poll_changed Once = ap (λ t. if s.idled then Some 0 else t) backend_changed
     poll_changed Default = backend_changed
 
-    pub deadline_changed : (o : Option ℕ) → deadline_of (changed c s) o ≡ option_map c.time (deadline_of s o)
+    pub deadline_changed : (o : Option ℕ) → deadline_of (changed c s) o ≡ option_map c.times.time (deadline_of s o)
     deadline_changed None = refl
-    deadline_changed (Some n) = ap Some (hides.waits n)
+    deadline_changed (Some n) = ap Some (hides.times.waits n)
 
     pub woken : AreDone s → steps.is_woken (changed c s) ≡ steps.is_woken s
     woken done = ap₂ (λ a b. a || b) (ap has_some done.1 ∙ some_changed s.done.list) hides.pends
 
-    pub passed_changed : Clocks s → (o : Option ℕ) → has_passed (c.clock s.clock) (option_map c.time o) ≡ has_passed s.clock o
+    pub passed_changed : Clocks s → (o : Option ℕ) → has_passed (c.clock s.clock) (option_map c.times.time o) ≡ has_passed s.clock o
     passed_changed clocks None = refl
     passed_changed clocks (Some n) = clocks.1 n
 
@@ -292,11 +317,11 @@ module _ (c : Change) where
       pub request_changed : (id : Id) → request (changed c s) (c.id id) ≡ option_map (changed_request c) (request s id)
       request_changed id = ap request_in (whole.holds id) ∙ request_of (held s.arena.slots id)
 
-      pub with_job : (id : Id) (o : Option Request) → with_id (c.id id) (option_map (changed_request c) o) ≡ option_map (changed_job c) (with_id id o)
+      pub with_job : (id : Id) (o : Option Request) → with_id (c.id id) (option_map (changed_request c) o) ≡ option_map changed_job (with_id id o)
       with_job id None = refl
       with_job id (Some r) = refl
 
-      pub front_request_changed : (ids : List Id) → front_request (changed c s) (map c.id ids) ≡ option_map (changed_job c) (front_request s ids)
+      pub front_request_changed : (ids : List Id) → front_request (changed c s) (map c.id ids) ≡ option_map changed_job (front_request s ids)
       front_request_changed [] = refl
       front_request_changed (id ∷ ids) = ap (with_id (c.id id)) (request_changed id) ∙ with_job id (request s id)
 
@@ -381,15 +406,16 @@ module _ (c : Change) where
     -- ---- the loop's own step
 
     module _ (reads : Reads p s) where
-      pub front_changed : (ids : List Id) → front (changed c s) (map c.id ids) ≡ option_map (changed_pair c) (front s ids)
+      pub front_changed : (ids : List Id) → front (changed c s) (map c.id ids) ≡ option_map changed_pair (front s ids)
       front_changed [] = refl
       front_changed (id ∷ ids) = ap (with_id (c.id id)) (reads.handles id) ∙ with_id_changed id (handle s id)
 
       pub first_due_changed : (ts : List (Due × Id)) →
-          first_due (changed c s) (map (changed_entry c) ts) ≡ option_map (changed_pair c) (first_due s ts)
+          first_due (changed c s) (map (changed_entry c) ts) ≡ option_map changed_pair (first_due s ts)
       first_due_changed [] = refl
-      first_due_changed (t ∷ ts) = if_shift (option_map (changed_pair c)) (nat_le t.0.at s.time) (nat_le (c.due t.0).at (c.time s.time)) _ _ _ _
-          (hides.passed t.0) (ap (with_id (c.id t.1)) (reads.handles t.1) ∙ with_id_changed t.1 (handle s t.1)) refl
+      first_due_changed (t ∷ ts) = if_shift (option_map changed_pair) (nat_le t.0.at s.time) (nat_le (c.times.due t.0).at (c.times.time s.time))
+          _ _ _ _
+          (hides.times.passed t.0) (ap (with_id (c.id t.1)) (reads.handles t.1) ∙ with_id_changed t.1 (handle s t.1)) refl
 
       -- ---- ops
 
@@ -441,9 +467,10 @@ module _ (c : Change) where
       bound_changed u v id same e = rw same (ap (λ ns. record (changed c u) { names = ns }) (hides.binds v id e))
 
       inited_changed : (v : Var) (k : Kind) → content.Handle (inited (c.var v) k) ≡ changed_content c (content.Handle (inited v k))
-      inited_changed v k = ap (λ due. content.Handle (record (inited (c.var v) k) { due = due })) (sym (hides.rests (is_async k) k _ (by k))) where
-        by : (k : Kind) → is_async k && is_timer k ≡ false
-        by k = grind arith
+      inited_changed v k = ap (λ due. content.Handle (record (inited (c.var v) k) { due = due }))
+          (sym (hides.times.rests (is_async k) k _ (by k))) where
+            by : (k : Kind) → is_async k && is_timer k ≡ false
+            by k = grind arith
 
       listed_changed : (u : State) (k : Kind) (id : Id) → ops.listed_last (changed c u) k (c.id id) ≡ changed c (ops.listed_last u k id)
       listed_changed u k id = if_shift (changed c) (is_async k) (is_async k) _ u _ (changed c u) refl (search map-append) refl
@@ -496,7 +523,7 @@ module _ (c : Change) where
       start_changed o timeout repeat id h puts at timer =
           ap (λ (u : State). ops.succeeds (started u (c.id id) (changed_handle c h) timeout repeat)) (stopped_changed id h puts)
           ∙ ap ops.succeeds (started_changed (stopped s id h) id h timeout repeat (put_twice (taken_off s id h) id (records.stopped h) puts) at
-          (λ due. hides.ticks h.kind due timer) hides.more)
+          (λ due. hides.times.ticks h.kind due timer) hides.times.more)
 
       again_changed : (o : Option Op) (id : Id) (h : HandleRecord) → handle s id ≡ Some h → is_timer h.kind ≡ true →
           ops.again (changed c s) (c.id id) (changed_handle c h) ≡ done_changed o (ops.again s id h)
@@ -504,8 +531,8 @@ module _ (c : Change) where
           let puts = reads.puts id h is in
           ap (λ (u : State). ops.succeeds (restarted u (c.id id) (changed_handle c h))) (stopped_changed id h puts)
           ∙ ap ops.succeeds (restarted_changed (stopped s id h) id h (put_twice (taken_off s id h) id (records.stopped h) puts)
-          (hides.repeats id h is)
-          (λ due. hides.ticks h.kind due timer) hides.more)
+          (hides.times.repeats id h is)
+          (λ due. hides.times.ticks h.kind due timer) hides.times.more)
 
       first_changed : (q : WatcherKind) (id : Id) →
           with_watched (changed c s) q (with_first (watched (changed c s) q) (c.id id)) ≡ changed c (with_watched s q (with_first (watched s q) id))
@@ -519,7 +546,7 @@ module _ (c : Change) where
           with_handle (changed c u) (c.id id) (activated (changed_handle c h)) ≡ changed c (with_handle u id (activated h))
       active_changed u id h puts other =
           ap (λ due. with_handle (changed c u) (c.id id) (record (activated h) { name = c.var h.name; due = due }))
-          (hides.rests h.active h.kind h.due (by h.active (is_timer h.kind) other) ∙ sym (hides.rests true h.kind h.due other))
+          (hides.times.rests h.active h.kind h.due (by h.active (is_timer h.kind) other) ∙ sym (hides.times.rests true h.kind h.due other))
           ∙ put_changed u id (activated h) puts
         where
           by : (a b : Bool) → b ≡ false → a && b ≡ false
@@ -544,13 +571,13 @@ module _ (c : Change) where
       closed_changed id h puts =
           ap₂ (λ (off : State) due. with_handle (record off { closing = with_first (changed_walk c s.closing) (c.id id) }) (c.id id)
           (record (records.closed h) { name = c.var h.name; due = due }))
-          (taken_off_changed s id h) (sym (hides.rests false h.kind _ refl))
+          (taken_off_changed s id h) (sym (hides.times.rests false h.kind _ refl))
           ∙ put_changed (record (taken_off s id h) { closing = with_first s.closing id }) id (records.closed h) puts
 
-      due_in_changed : (h : HandleRecord) → is_timer h.kind ≡ true → dues.due_in (c.time s.time) (changed_handle c h) ≡ dues.due_in s.time h
+      due_in_changed : (h : HandleRecord) → is_timer h.kind ≡ true → dues.due_in (c.times.time s.time) (changed_handle c h) ≡ dues.due_in s.time h
       due_in_changed h timer = by h.active where
-        by : (b : Bool) → (if b then (c.due_in b h.kind h.due).at - c.time s.time else 0) ≡ (if b then h.due.at - s.time else 0)
-        by true = ap (λ (due : Due). due.at - c.time s.time) (hides.ticks h.kind h.due timer) ∙ hides.left h.due
+        by : (b : Bool) → (if b then (c.times.due_in b h.kind h.due).at - c.times.time s.time else 0) ≡ (if b then h.due.at - s.time else 0)
+        by true = ap (λ (due : Due). due.at - c.times.time s.time) (hides.times.ticks h.kind h.due timer) ∙ hides.times.left h.due
         by false = refl
 
       pub op_changed : (at : Site) (o : Op) → op_at p at ≡ Some o → (cancels_op o ≡ true → Cancels s) → (op_reads_clock o ≡ true → Clocks s) →
@@ -559,7 +586,7 @@ module _ (c : Change) where
       op_changed at (op.Queue v task) e work time = make_changed _ v _ _ (queued_changed v task)
       op_changed at (op.Cancel v) e work time = work refl _ v
       op_changed at (op.Start v timeout repeat) e work time = on_handle_changed _ v start_timer_refusal _ _ (λ h. refl)
-          (λ id h is w. start_changed None timeout repeat id h (reads.puts id h is) (hides.starts at v timeout repeat e)
+          (λ id h is w. start_changed None timeout repeat id h (reads.puts id h is) (hides.times.starts at v timeout repeat e)
           (is_a_timer (is_timer h.kind) _ w))
       op_changed at (op.StartWatcher v) e work time = on_handle_changed _ v start_watcher_refusal _ _ (λ h. refl)
           (λ id h is w. start_watcher_changed None id h (reads.puts id h is) (starts_no_timer h.kind h.closing w))

@@ -1,5 +1,5 @@
 -- What a change leaves as it is: names, or ids, or the lines of calls.
-use Rattle.uv_alike.proofs.Names.{◌≡◌, List, [], ◌∷◌, Option, Some, None, refl, ap, sym, arith, Id, Stage, Poll, Var, Op, MainOp, CallbackLine, Event, Loop, Take, Finish, Cancel, Send, Io, Tick, Slot, Content, Task, list_any, Bool, ap₂, ℕ, State, slice_get, slice_set, ◌||◌, map, option_map, Walk, IsWork, Change, same, changed, changed_stage, changed_walk, changed_op, changed_callback, changed_main, changed_event}
+use Rattle.uv_alike.proofs.Names.{◌≡◌, List, [], ◌∷◌, Option, refl, ap, sym, arith, Id, Stage, Var, Op, MainOp, CallbackLine, Event, Loop, Take, Finish, Cancel, Send, Io, Tick, Slot, Content, Task, list_any, Bool, ap₂, ℕ, State, slice_get, slice_set, ◌||◌, map, option_map, Walk, IsWork, Change, same, changed, changed_stage, changed_walk, changed_op, changed_callback, changed_main, changed_event, HidesTimes, same_times, Program}
 use Rattle.uv_script.specs.declared.op.Op.TheVariants as op
 use Rattle.uv_script.specs.declared.op.MainOp.TheVariants as main
 
@@ -26,6 +26,22 @@ runs_same s k = grind arith
 -- what requests ask for stays
 pub work_same : IsWork same
 work_same = record { opens = refl; cancels = refl; finishes = λ t. refl; tells = λ o. refl }
+
+-- and so do times
+pub times_same : (p : Program) (s : State) → HidesTimes same_times p s
+times_same p s = record {
+  order = λ a b. refl;
+  passed = λ a. refl;
+  left = λ a. refl;
+  rests = λ active k due e. refl;
+  ticks = λ k due e. refl;
+  more = refl;
+  repeats = λ x h e. refl;
+  starts = λ at v timeout repeat e. refl;
+  fires = λ t e due. refl;
+  falls = λ t e due. refl;
+  waits = λ n. refl;
+}
 
 -- where no name is named anew, and requests ask for what they did, the script stays
 module _ (c : Change) (var : (v : Var) → c.var v ≡ v) (task : (t : Task) → c.work.task t ≡ t) where
@@ -74,7 +90,7 @@ module _ (c : Change) (var : (v : Var) → c.var v ≡ v) where
   event_same (Tick ms) = refl
 
 -- a stage, where the time stays
-pub stage_same : (c : Change) → ((n : ℕ) → c.time n ≡ n) → (stage : Stage) → changed_stage c stage ≡ stage
+pub stage_same : (c : Change) → ((n : ℕ) → c.times.time n ≡ n) → (stage : Stage) → changed_stage c stage ≡ stage
 stage_same c time stage = grind arith
 
 -- where no id is another, the lists of handles stay, and so do the requests whose callbacks are under way

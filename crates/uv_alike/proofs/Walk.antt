@@ -1,5 +1,5 @@
 -- One walk through the rows of `next`: each row from a changed state is that row from the state itself, so changed.
-use Rattle.uv_alike.proofs.Names.{if◌then◌else◌, Program, State, ◌≡◌, ℕ, ◌+◌, ◌==◌, ◌&&◌, List, drop, length, Bool, true, false, Option, Some, None, Result, Ok, Err, refl, ap, ap₂, sym, ◌∙◌, arith, not, nat_le, nat_lt, slice_get, slice_set, Id, Order, V144, V145, Var, Code, Seen, Event, Loop, Take, Finish, Cancel, Send, Io, Tick, Why, Slots, Content, order_of, from_heap, arena_size, has_io, lines_in, HandleRecord, Request, WatcherKind, MainOp, CallbackLine, request, front, front_request, with_id, with_handle, live_handle, live_request, taken_off, stopped, started, restarted, found_or, freed, with_watched, watched, refreshed, do_op, Body, Run, Stage, Entry, Pending, Walking, Poll, Polled, Done, DoneUnwoken, Closing, Timers, TimersOf, Timing, Collecting, Firing, Turn, AtEntry, Behind, BehindClosing, Way, ToTimers, ToPending, ToEnd, Place, Main, Running, Moves, ◌||◌, map, option_map, drop-map, map-append, Mode, Default, Once, Nowait, main_op, all_yet, digest_in, Finished, LATEST, is_alive, poll_timeout, deadline_of, Coded, Next, Refuses, first_due, collected, Change, changed, changed_handle, changed_request, changed_entry, changed_pair, changed_job, changed_line, changed_run, changed_place, changed_stage, changed_body, changed_walk, changed_callback, changed_main, changed_event, changed_answer, changed_program, Comes, Hides, IsWhole, SeesAlike, cancels_at, cancels_line, cancels_main, cancels_run, place_asks_done, run_asks_done, stage_asks_done, place_reads_clock, line_reads_clock, main_reads_clock, run_reads_clock, stage_reads_clock, Blocked, IdleWorker, text_of}
+use Rattle.uv_alike.proofs.Names.{if◌then◌else◌, Program, State, ◌≡◌, ℕ, ◌+◌, ◌==◌, ◌&&◌, List, drop, length, Bool, true, false, Option, Some, None, Result, Ok, Err, refl, ap, ap₂, sym, ◌∙◌, arith, not, nat_le, nat_lt, slice_get, slice_set, Id, Order, V144, V145, Var, Code, Seen, Event, Loop, Take, Finish, Cancel, Send, Io, Tick, Why, Slots, Content, order_of, from_heap, arena_size, has_io, lines_in, HandleRecord, Request, WatcherKind, MainOp, CallbackLine, request, front, front_request, with_id, with_handle, live_handle, live_request, taken_off, stopped, started, restarted, found_or, freed, with_watched, watched, refreshed, do_op, Body, Run, Stage, Entry, Pending, Walking, Poll, Polled, Done, DoneUnwoken, Closing, Timers, TimersOf, Timing, Collecting, Firing, Turn, AtEntry, Behind, BehindClosing, Way, ToTimers, ToPending, ToEnd, Place, Main, Running, Moves, ◌||◌, map, option_map, drop-map, map-append, Mode, main_op, all_yet, digest_in, Finished, LATEST, is_alive, poll_timeout, deadline_of, Coded, Next, Refuses, first_due, collected, Change, changed, changed_handle, changed_request, changed_entry, changed_line, changed_run, changed_place, changed_stage, changed_body, changed_walk, changed_callback, changed_main, changed_event, changed_answer, changed_program, Comes, Hides, IsWhole, cancels_at, cancels_line, cancels_main, cancels_run, place_reads_clock, line_reads_clock, main_reads_clock, run_reads_clock, stage_reads_clock, Blocked, IdleWorker, text_of, Callback}
 use Rattle.uv_ids.specs.declared.phase.Phase.{Phase}
 use Rattle.uv_ids.specs.declared.phase.Phase.TheVariants as phase
 use Rattle.uv_ids.specs.declared.seen.Seen.TheVariants as seen
@@ -15,7 +15,7 @@ use Rattle.uv_model.specs.Ops as ops
 use Rattle.uv_model.specs.Next as steps
 use Rattle.uv_model.specs.Next.{next}
 use Rattle.uv_alike.proofs.Cases.{if_shift}
-use Rattle.uv_alike.proofs.Ops.{Cancels, Clocks, AreDone, Reads, by_test, found_changed, front_held, first_due_held, some_changed, found_handle, found_request, request_puts, put_changed, put_twice, stopped_changed, restarted_changed, collected_changed, request_changed, with_job, front_request_changed, front_changed, first_due_changed, alive, woken, poll_changed, deadline_changed, passed_changed, refreshed_changed, ended_changed, cancel_changed, send_changed, op_changed, whole_reads, whole_done}
+use Rattle.uv_alike.proofs.Ops.{Cancels, Clocks, AreDone, Reads, by_test, found_changed, front_held, first_due_held, some_changed, found_handle, found_request, request_puts, put_changed, put_twice, stopped_changed, restarted_changed, collected_changed, request_changed, with_job, front_request_changed, front_changed, first_due_changed, alive, woken, poll_changed, deadline_changed, passed_changed, refreshed_changed, ended_changed, cancel_changed, send_changed, op_changed, whole_reads, whole_done, changed_pair, changed_job, run_asks_done, stage_asks_done, place_asks_done}
 
 -- ---- the clock, where a run goes on
 
@@ -32,6 +32,23 @@ turn_reads turn o = false
 
 way_turns : (o : Order) (m : Mode) (go : Bool) (t : Turn) → way_reads o (steps.way o m go t) ≡ true → turn_reads t o ≡ true
 way_turns o m go t e = grind arith
+
+-- two ways to look at a step, by which one from a changed state is one from the state itself
+pub record SeesAlike (c : Change) (p : Program) (s : State) (left right : Next → Next) : Type 0 where
+  pub refuses : (why : Why) → left (Refuses why) ≡ right (Refuses why)
+  pub stays : (u : State) (line : Option Seen) → left (Moves (changed c u) (option_map (changed_line c p) line)) ≡ right (Moves u line)
+  -- a callback begins, in a state with the names of this one
+  pub calls : (u : State) (run : Run) (kind : Callback) (v : Var) (line : Seen) → u.names ≡ s.names
+      → left (steps.calls (changed_program c p) (changed c u) (changed_run c run) kind (c.var v) (changed_line c p line))
+      ≡ right (steps.calls p u run kind v line)
+  -- the body of a call goes on
+  pub goes : (u : State) (run : Run) (kind : Callback) (v : Var) (call number : ℕ) (line : Seen)
+      → left (Moves (record (changed c u) {
+        place =
+            Running (record (changed_run c run) { body = steps.body_from (changed_program c p) kind (c.var v) (c.count call) number });
+      })
+      (Some (changed_line c p line)))
+      ≡ right (Moves (record u { place = Running (record run { body = steps.body_from p kind v call number }) }) (Some line))
 
 -- the script that the changed state is of
 abbrev script : Change → Program → Program
@@ -93,7 +110,7 @@ module _ (c : Change) (p : Program) (s : State) (hides : Hides c p s) (reads : R
       let is = front_held s s.ready t e in
       called (restarted u t.0 t.1) _ (record run { stage = Timers part Firing }) t.0 t.1.name (names_stay u t.0 t.1 refl)
       (ap (λ ids. restarted (record (changed c s) { ready = ids }) (c.id t.0) (changed_handle c t.1)) (drop-map c.id 1 s.ready)
-      ∙ (restarted_changed c p s hides) u t.0 t.1 (reads.puts t.0 t.1 is) (hides.repeats t.0 t.1 is) (hides.fires t e) hides.more))
+      ∙ (restarted_changed c p s hides) u t.0 t.1 (reads.puts t.0 t.1 is) (hides.times.repeats t.0 t.1 is) (hides.times.fires t e) hides.times.more))
       (turn_alike run (Behind part) (λ e. cc e))
 
   collect_alike : (run : Run) (part : TimersOf) → left (steps.collect (script c p) (changed c s) (changed_run c run) part)
@@ -117,7 +134,7 @@ module _ (c : Change) (p : Program) (s : State) (hides : Hides c p s) (reads : R
       called (restarted u t.0 t.1) _ (record run { stage = Timers part Collecting }) t.0 t.1.name (names_stay u t.0 t.1 refl)
       (ap (λ x. restarted x (c.id t.0) (changed_handle c t.1)) ((stopped_changed c p s hides) t.0 t.1 puts)
       ∙ (restarted_changed c p s hides) u t.0 t.1 ((put_twice c p s hides) (taken_off s t.0 t.1) t.0 (records.stopped t.1) puts)
-      (hides.repeats t.0 t.1 is) (hides.falls t e) hides.more))
+      (hides.times.repeats t.0 t.1 is) (hides.times.falls t e) hides.times.more))
       (turn_alike run (Behind part) (λ e. cc e))
 
   timers_alike : (run : Run) (part : TimersOf) (when : Timing) →
@@ -232,7 +249,7 @@ module _ (c : Change) (p : Program) (s : State) (hides : Hides c p s) (reads : R
       (λ i. record (changed c u) { done = record { list = sym done.0 i; yet = done.1 i } })
 
   poll_alike : (run : Run) (deadline : Option ℕ) → Clocks c s → AreDone c s →
-      left (steps.poll (changed c s) (changed_run c run) (option_map c.time deadline)) ≡ right (steps.poll s run deadline)
+      left (steps.poll (changed c s) (changed_run c run) (option_map c.times.time deadline)) ≡ right (steps.poll s run deadline)
   poll_alike run deadline time done =
       ap₂ (λ a b. left (if a || b then steps.begin_done (refreshed (changed c s)) (changed_run c run) else Refuses Blocked))
       (passed_changed c p s hides time deadline) (woken c p s hides done)
@@ -401,7 +418,7 @@ module _ (c : Change) (p : Program) (s : State) (hides : Hides c p s) (whole : I
   stage_polled_changed (Poll deadline) = ap Polled (woken c p s hides (whole_done c p s hides whole))
   stage_polled_changed stage = grind arith
 
-  time_polled_changed : (stage : Stage) → steps.time_polled (changed c s) (changed_stage c stage) ≡ c.time (steps.time_polled s stage)
+  time_polled_changed : (stage : Stage) → steps.time_polled (changed c s) (changed_stage c stage) ≡ c.times.time (steps.time_polled s stage)
   time_polled_changed (Poll deadline) = whole.clocks
   time_polled_changed stage = grind arith
 

@@ -1,4 +1,4 @@
--- What the loop's next own step asks: who waits for a worker, who is done, and the clock.
+-- What the loop's next own step asks: who waits for a worker, and the clock.
 use Rattle.std.specs.Prelude.{Bool, true, false, Option, Some, None, slice_get}
 use Rattle.uv_ids.specs.declared.order.Order.{Order}
 use Rattle.uv_ids.specs.declared.order.Order.TheVariants.{V144}
@@ -11,7 +11,7 @@ use Rattle.uv_script.specs.Program.{Program, order_of, lines_in}
 use Rattle.uv_model.specs.declared.place.Body.{Body}
 use Rattle.uv_model.specs.declared.place.Run.{Run}
 use Rattle.uv_model.specs.declared.place.Stage.{Stage}
-use Rattle.uv_model.specs.declared.place.Stage.TheVariants.{Entry, Poll, Polled, Closing}
+use Rattle.uv_model.specs.declared.place.Stage.TheVariants.{Entry, Poll, Closing}
 use Rattle.uv_model.specs.declared.place.Place.{Place}
 use Rattle.uv_model.specs.declared.place.Place.TheVariants.{Main, Running}
 use Rattle.uv_model.specs.State.{State}
@@ -80,19 +80,3 @@ place_reads_clock p (Running run) = run_reads_clock p run run.body
 -- the loop's next step may read the clock
 abbrev pub reads_clock : Program → State → Bool
 reads_clock p s = place_reads_clock p s.place
-
--- ---- who is done
-
--- where no body is under way: the poll asks whether a request is done, and behind a woken one those that are done are set aside
-abbrev pub stage_asks_done : Stage → Bool
-stage_asks_done (Poll deadline) = true
-stage_asks_done (Polled woken) = woken
-stage_asks_done _ = false
-
-abbrev pub run_asks_done : Run → Option Body → Bool
-run_asks_done run None = stage_asks_done run.stage
-run_asks_done run (Some body) = false
-
-abbrev pub place_asks_done : Place → Bool
-place_asks_done (Main line) = false
-place_asks_done (Running run) = run_asks_done run run.body

@@ -42,6 +42,16 @@ use Rattle.uv_model.specs.Limits.{LATEST}
 use Rattle.uv_model.specs.State.{Watchers}
 use Rattle.uv_model.specs.Next.{Next, Refuses}
 
+-- what a step does, with another state for the one that it leads to
+abbrev pub state_map : (State → State) → Next → Next
+state_map f (Moves s line) = Moves (f s) line
+state_map f (Refuses why) = Refuses why
+
+-- and with another line for its own
+abbrev pub next_map : (State → State) → (Seen → Seen) → Next → Next
+next_map f g (Moves s line) = Moves (f s) (option_map g line)
+next_map f g (Refuses why) = Refuses why
+
 -- what becomes of the work that requests ask for
 pub record Work : Type 0 where
   -- of a task, of what a request came to, and of the digest that its callback tells
@@ -56,6 +66,19 @@ pub record Work : Type 0 where
 abbrev pub same : Work
 same = record { task = λ t. t; outcome = λ o. o; digest = λ d. d; main = λ ops. ops; callbacks = λ cs. cs }
 
+-- what becomes of times, and of the numbers of starts
+pub record Times : Type 0 where
+  -- when a timer is due: in the order of timers, and in the record of a handle, by whether it is active and by its kind
+  pub due : Due → Due
+  pub due_in : Bool → Kind → Due → Due
+  -- the loop's time, and the number of the next start
+  pub time : ℕ → ℕ
+  pub start : ℕ → ℕ
+
+-- they stay
+abbrev pub same_times : Times
+same_times = record { due = λ due. due; due_in = λ active k due. due; time = λ n. n; start = λ n. n }
+
 pub record Change : Type 0 where
   -- names and ids
   pub var : Var → Var
@@ -63,13 +86,9 @@ pub record Change : Type 0 where
   -- what becomes of all slots, and of the free ones
   pub slots : List (Slot Content) → List (Slot Content)
   pub free : List ℕ → List ℕ
-  -- when a timer is due: in the order of timers, and in the record of a handle, by whether it is active and by its kind
-  pub due : Due → Due
-  pub due_in : Bool → Kind → Due → Due
-  -- the loop's time, the clock, and the number of the next start
-  pub time : ℕ → ℕ
+  pub times : Times
+  -- the clock
   pub clock : ℕ → ℕ
-  pub start : ℕ → ℕ
   -- what names are bound to and how often they were called; the call that a body belongs to
   pub names : List Named → List Named
   pub count : ℕ → ℕ
@@ -80,9 +99,26 @@ pub record Change : Type 0 where
   -- what requests ask for
   pub work : Work
 
+-- none
+abbrev pub unchanged : Change
+unchanged = record {
+  var = λ v. v;
+  id = λ x. x;
+  slots = λ slots. slots;
+  free = λ ns. ns;
+  times = same_times;
+  clock = λ n. n;
+  names = λ ns. ns;
+  count = λ n. n;
+  waits = map (λ x. x);
+  runs = λ rs. rs;
+  ends = map (λ x. x);
+  work = same;
+}
+
 module _ (c : Change) where
   abbrev pub changed_handle : HandleRecord → HandleRecord
-  changed_handle h = record h { name = c.var h.name; due = c.due_in h.active h.kind h.due }
+  changed_handle h = record h { name = c.var h.name; due = c.times.due_in h.active h.kind h.due }
 
   abbrev pub changed_request : Request → Request
   changed_request r = record { name = c.var r.name; task = c.work.task r.task; outcome = c.work.outcome r.outcome }
@@ -106,14 +142,14 @@ module _ (c : Change) where
   }
 
   abbrev pub changed_entry : Due × Id → Due × Id
-  changed_entry t = (c.due t.0, c.id t.1)
+  changed_entry t = (c.times.due t.0, c.id t.1)
 
   abbrev pub changed_body : Body → Body
   changed_body b = record b { name = c.var b.name; call = c.count b.call }
 
   -- only a poll has a time at which it is over
   abbrev pub changed_stage : Stage → Stage
-  changed_stage (Poll deadline) = Poll (option_map c.time deadline)
+  changed_stage (Poll deadline) = Poll (option_map c.times.time deadline)
   changed_stage stage = stage
 
   abbrev pub changed_run : Run → Run
@@ -135,18 +171,12 @@ module _ (c : Change) where
     waiting = c.waits s.waiting;
     running = c.runs s.running;
     done = record { list = c.ends s.done.list; yet = map c.id s.done.yet };
-    time = c.time s.time;
+    time = c.times.time s.time;
     clock = c.clock s.clock;
-    next_start = c.start s.next_start;
+    next_start = c.times.start s.next_start;
   }
 
-  -- who is found
-  abbrev pub changed_pair : Id × HandleRecord → Id × HandleRecord
-  changed_pair t = (c.id t.0, changed_handle t.1)
-
-  abbrev pub changed_job : Id × Request → Id × Request
-  changed_job t = (c.id t.0, changed_request t.1)
-
+  -- who is live
   abbrev pub changed_live : Id × Content → Id × Content
   changed_live t = (c.id t.0, changed_content t.1)
 
@@ -207,22 +237,17 @@ module _ (c : Change) where
   abbrev pub changed_answer : Answer → Option Op → Answer
   changed_answer (answer.Id id) o = answer.Id (c.id id)
   changed_answer (answer.Cancelled id) o = answer.Cancelled (c.id id)
-  changed_answer (answer.Number n) (Some op.Now) = answer.Number (c.time n)
+  changed_answer (answer.Number n) (Some op.Now) = answer.Number (c.times.time n)
   changed_answer a o = a
 
-  module _ (p : Program) where
-    abbrev pub changed_line : Seen → Seen
-    changed_line (seen.Op at a) = seen.Op (changed_site at) (changed_answer a (op_at p at))
-    changed_line (seen.Call v id) = seen.Call (c.var v) (c.id id)
-    changed_line (seen.Io v id) = seen.Io (c.var v) (c.id id)
-    changed_line (seen.After digest v id) = seen.After (c.work.digest digest) (c.var v) (c.id id)
-    changed_line (seen.Closed v id) = seen.Closed (c.var v) (c.id id)
-    changed_line (seen.Take worker v id) = seen.Take worker (c.var v) (c.id id)
-    changed_line (seen.Finish worker v id) = seen.Finish worker (c.var v) (c.id id)
-    changed_line (seen.Cancel v a) = seen.Cancel (c.var v) (changed_answer a None)
-    changed_line (seen.Send v code) = seen.Send (c.var v) code
-    changed_line line = line
-
-    abbrev pub changed_next : Next → Next
-    changed_next (Moves s line) = Moves (changed s) (option_map changed_line line)
-    changed_next (Refuses why) = Refuses why
+  abbrev pub changed_line : Program → Seen → Seen
+  changed_line p (seen.Op at a) = seen.Op (changed_site at) (changed_answer a (op_at p at))
+  changed_line p (seen.Call v id) = seen.Call (c.var v) (c.id id)
+  changed_line p (seen.Io v id) = seen.Io (c.var v) (c.id id)
+  changed_line p (seen.After digest v id) = seen.After (c.work.digest digest) (c.var v) (c.id id)
+  changed_line p (seen.Closed v id) = seen.Closed (c.var v) (c.id id)
+  changed_line p (seen.Take worker v id) = seen.Take worker (c.var v) (c.id id)
+  changed_line p (seen.Finish worker v id) = seen.Finish worker (c.var v) (c.id id)
+  changed_line p (seen.Cancel v a) = seen.Cancel (c.var v) (changed_answer a None)
+  changed_line p (seen.Send v code) = seen.Send (c.var v) code
+  changed_line p line = line

@@ -1,4 +1,4 @@
--- What the step of a state may read and write of a change, and two ways to look at a step.
+-- What the step of a state may read and write of a change.
 use Rattle.std.specs.List.{list_any}
 use Rattle.std.specs.Prelude.{◌≡◌, ℕ, ◌+◌, ◌&&◌, Bool, true, false, Option, Some, length, slice_get, slice_set, nat_le, nat_lt}
 use Rattle.uv_ids.specs.Due.{due_cmp}
@@ -7,12 +7,10 @@ use Rattle.uv_ids.specs.declared.id.Id.{Id}
 use Rattle.uv_ids.specs.declared.id.Var.{Var}
 use Rattle.uv_ids.specs.declared.phase.Kind.{Kind}
 use Rattle.uv_ids.specs.declared.seen.Callback.{Callback}
-use Rattle.uv_ids.specs.declared.seen.Seen.{Seen}
 use Rattle.uv_model.specs.Ids.{same_id}
 use Rattle.uv_model.specs.Next.{Moves}
 use Rattle.uv_model.specs.State.{State, front, live, handle, named, with_named}
-use Rattle.uv_model.specs.declared.place.Place.TheVariants.{Main, Running}
-use Rattle.uv_model.specs.declared.place.Run.{Run}
+use Rattle.uv_model.specs.declared.place.Place.TheVariants.{Main}
 use Rattle.uv_records.specs.Slots.{held, with_held, next_free, taken, freed}
 use Rattle.uv_records.specs.declared.handle.HandleRecord.{HandleRecord}
 use Rattle.uv_records.specs.declared.named.Named.{Named}
@@ -20,7 +18,6 @@ use Rattle.uv_records.specs.declared.slot.Slot.{Slot}
 use Rattle.uv_script.specs.Program.{Program, arena_size, lines_in}
 use Rattle.uv_work.specs.declared.content.Content.{Content}
 use Rattle.std.specs.Prelude.{List, map, option_map, ◌-◌}
-use Rattle.uv_ids.specs.declared.fault.Why.{Why}
 use Rattle.uv_ids.specs.declared.seen.Site.{Site}
 use Rattle.uv_script.specs.declared.op.Op.TheVariants as op
 use Rattle.uv_script.specs.Program.{op_at}
@@ -36,7 +33,7 @@ use Rattle.uv_work.specs.Tasks.{text_of}
 use Rattle.uv_work.specs.declared.outcome.Outcome.{Outcome}
 use Rattle.uv_work.specs.declared.outcome.Outcome.TheVariants.{Open, Finished, Cancelled}
 use Rattle.uv_work.specs.declared.task.Task.{Task}
-use Rattle.uv_alike.specs.Changed.{Work, Change, changed_content, changed_arena, changed_body, changed_run, changed, changed_live, changed_callback, changed_main, changed_line, changed_program}
+use Rattle.uv_alike.specs.Changed.{Work, Times, Change, changed_content, changed_arena, changed_body, changed, changed_live, changed_callback, changed_main, changed_program}
 
 -- what becomes of a request is that of what it asks for
 pub record IsWork (w : Work) : Type 0 where
@@ -45,6 +42,24 @@ pub record IsWork (w : Work) : Type 0 where
   pub finishes : (t : Task) → w.outcome (Finished (digest_of t.rounds (text_of t)))
       ≡ Finished (digest_of (w.task t).rounds (text_of (w.task t)))
   pub tells : (o : Outcome) → digest_in (w.outcome o) ≡ w.digest (digest_in o)
+
+-- what each step of a state may read and write of times
+pub record HidesTimes (t : Times) (p : Program) (s : State) : Type 0 where
+  -- when timers are due
+  pub order : (a b : Due) → due_cmp (t.due a) (t.due b) ≡ due_cmp a b
+  pub passed : (a : Due) → nat_le (t.due a).at (t.time s.time) ≡ nat_le a.at s.time
+  pub left : (a : Due) → (t.due a).at - t.time s.time ≡ a.at - s.time
+  pub rests : (active : Bool) (k : Kind) (due : Due) → active && is_timer k ≡ false → t.due_in active k due ≡ due
+  pub ticks : (k : Kind) (due : Due) → is_timer k ≡ true → t.due_in true k due ≡ t.due due
+  pub more : t.start (s.next_start + 1) ≡ t.start s.next_start + 1
+  pub repeats : (x : Id) (h : HandleRecord) → handle s x ≡ Some h
+      → due_after (t.time s.time) (t.start s.next_start) h.repeat ≡ t.due (due_after s.time s.next_start h.repeat)
+  pub starts : (at : Site) (v : Var) (timeout repeat : ℕ) → op_at p at ≡ Some (op.Start v timeout repeat)
+      → due_after (t.time s.time) (t.start s.next_start) timeout ≡ t.due (due_after s.time s.next_start timeout)
+  pub fires : (x : Id × HandleRecord) → front s s.ready ≡ Some x → (due : Due) → t.due_in true x.1.kind due ≡ t.due due
+  pub falls : (x : Id × HandleRecord) → steps.first_due s s.timers ≡ Some x → (due : Due) → t.due_in true x.1.kind due ≡ t.due due
+  -- the time
+  pub waits : (n : ℕ) → t.time s.time + n ≡ t.time (s.time + n)
 
 module _ (c : Change) (p : Program) where
   -- what each step of a state may read and write
@@ -61,21 +76,7 @@ module _ (c : Change) (p : Program) where
         ≡ list_any (λ (slot : Slot Content). content_pends slot.content) s.arena.slots
     pub uses : list_any (λ (slot : Slot Content). is_used slot.content) (c.slots s.arena.slots)
         ≡ list_any (λ (slot : Slot Content). is_used slot.content) s.arena.slots
-    -- when timers are due
-    pub order : (a b : Due) → due_cmp (c.due a) (c.due b) ≡ due_cmp a b
-    pub passed : (a : Due) → nat_le (c.due a).at (c.time s.time) ≡ nat_le a.at s.time
-    pub left : (a : Due) → (c.due a).at - c.time s.time ≡ a.at - s.time
-    pub rests : (active : Bool) (k : Kind) (due : Due) → active && is_timer k ≡ false → c.due_in active k due ≡ due
-    pub ticks : (k : Kind) (due : Due) → is_timer k ≡ true → c.due_in true k due ≡ c.due due
-    pub more : c.start (s.next_start + 1) ≡ c.start s.next_start + 1
-    pub repeats : (x : Id) (h : HandleRecord) → handle s x ≡ Some h
-        → due_after (c.time s.time) (c.start s.next_start) h.repeat ≡ c.due (due_after s.time s.next_start h.repeat)
-    pub starts : (at : Site) (v : Var) (timeout repeat : ℕ) → op_at p at ≡ Some (op.Start v timeout repeat)
-        → due_after (c.time s.time) (c.start s.next_start) timeout ≡ c.due (due_after s.time s.next_start timeout)
-    pub fires : (t : Id × HandleRecord) → front s s.ready ≡ Some t → (due : Due) → c.due_in true t.1.kind due ≡ c.due due
-    pub falls : (t : Id × HandleRecord) → steps.first_due s s.timers ≡ Some t → (due : Due) → c.due_in true t.1.kind due ≡ c.due due
-    -- the time
-    pub waits : (n : ℕ) → c.time s.time + n ≡ c.time (s.time + n)
+    pub times : HidesTimes c.times p s
     -- names
     pub known : (v : Var) → nat_lt (c.var v).0 (length (c.names s.names)) ≡ nat_lt v.0 (length s.names)
     pub binds : (v : Var) (x : Id) → next_free s.arena ≡ Some x
@@ -98,27 +99,10 @@ module _ (c : Change) (p : Program) where
         → freed (arena_size p).last_generation (c.id x) ((changed_arena c) s.arena)
         ≡ (changed_arena c) (freed (arena_size p).last_generation x s.arena)
     pub lives : (v : Var) → live ((changed c) s) (c.var v) ≡ option_map (changed_live c) (live s v)
-    pub over : (n : ℕ) → nat_le (c.time n) (c.clock s.clock) ≡ nat_le n s.clock
-    pub clocks : c.clock s.clock ≡ c.time s.clock
+    pub over : (n : ℕ) → nat_le (c.times.time n) (c.clock s.clock) ≡ nat_le n s.clock
+    pub clocks : c.clock s.clock ≡ c.times.time s.clock
     pub queued : (ids : List Id) → c.waits ids ≡ map c.id ids
     pub ended : (ids : List Id) → c.ends ids ≡ map c.id ids
-
-  -- two ways to look at a step, by which one from a (changed c) state is one from the state itself
-  pub record SeesAlike (s : State) (left right : Next → Next) : Type 0 where
-    pub refuses : (why : Why) → left (Refuses why) ≡ right (Refuses why)
-    pub stays : (u : State) (line : Option Seen) → left (Moves ((changed c) u) (option_map (changed_line c p) line)) ≡ right (Moves u line)
-    -- a callback begins, in a state with the names of this one
-    pub calls : (u : State) (run : Run) (kind : Callback) (v : Var) (line : Seen) → u.names ≡ s.names
-        → left (steps.calls (changed_program c p) ((changed c) u) ((changed_run c) run) kind (c.var v) ((changed_line c p) line))
-        ≡ right (steps.calls p u run kind v line)
-    -- the body of a call goes on
-    pub goes : (u : State) (run : Run) (kind : Callback) (v : Var) (call number : ℕ) (line : Seen)
-        → left (Moves (record ((changed c) u) {
-          place =
-              Running (record ((changed_run c) run) { body = steps.body_from (changed_program c p) kind (c.var v) (c.count call) number });
-        })
-        (Some ((changed_line c p) line)))
-        ≡ right (Moves (record u { place = Running (record run { body = steps.body_from p kind v call number }) }) (Some line))
 
 -- a change that keeps every count, seen in a state with the names of this one
 pub record IsExact (c : Change) (p : Program) (s : State) : Type 0 where

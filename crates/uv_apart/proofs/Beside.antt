@@ -1,5 +1,5 @@
 -- What a worker takes beside a tick, what another worker finishes, and a callback of I/O.
-use Rattle.uv_apart.proofs.Names.{◌≡◌, ℕ, ◌+◌, ◌==◌, List, ◌∷◌, length, drop, Bool, true, false, Option, Some, None, Result, Ok, Err, refl, ap, sym, subst, ◌∙◌, arith, nat_le, nat_lt, slice_get, slice_set, if◌then◌else◌, eq-eqb, eqb-true, elements, set_comm, Id, Var, Event, Take, Finish, Send, Io, Tick, Code, Range, Seen, Program, HandleRecord, Slot, send_refusal, held, Content, Request, Run, handle_in, request_in, found_or, state_of, LATEST, Coded, ended, send, State, front_request, live_handle, request, with_handle, with_id, Moves, Refuses, io_run, io_handle, call_io, Crosses}
+use Rattle.uv_apart.proofs.Names.{◌≡◌, ℕ, ◌+◌, ◌==◌, List, ◌∷◌, length, drop, Bool, true, false, Option, Some, None, Result, Ok, Err, refl, ap, sym, subst, ◌∙◌, arith, nat_le, nat_lt, slice_get, slice_set, if◌then◌else◌, eq-eqb, eqb-true, elements, set_comm, Id, Var, Event, Take, Finish, Send, Io, Tick, Code, Range, Seen, Program, HandleRecord, Slot, send_refusal, held, Content, Request, Run, handle_in, request_in, found_or, state_of, LATEST, Coded, ended, send, State, front_request, live_handle, request, with_handle, with_id, Moves, Refuses, io_run, io_handle, call_io, Crosses, state_map}
 use Rattle.uv_ids.specs.declared.code.Code.TheVariants.{Ok as Success}
 use Rattle.uv_ids.specs.declared.seen.Seen.TheVariants as seen
 use Rattle.uv_records.specs.Handles as records
@@ -7,7 +7,6 @@ use Rattle.uv_work.specs.declared.content.Content.TheVariants as content
 use Rattle.uv_model.specs.Next.{next}
 use Rattle.uv_apart.proofs.Cases.{by_test}
 use Rattle.uv_apart.proofs.Changed.{Change, changed, live_held, send_changed}
-use Rattle.uv_apart.proofs.Walk.{changed_next}
 use Rattle.uv_apart.proofs.Held.{asked, get_set_other, request_there, same_request}
 use Rattle.uv_apart.proofs.Kept.{behind, moved, moved_hides, moved_leaves, next_ticks}
 use Rattle.uv_apart.proofs.Pool.{front_stays, Takes, next_takes, take_next, first, Finishes, next_finishes, finish_next, finished}
@@ -109,26 +108,26 @@ module _ (p : Program) (s a : State) (k : ℕ) (l : Option Seen) (t : Takes s k 
 
   -- an event that goes alike behind the take, and behind which the take goes as before
   crosses : (f : Event) (b : State) (m : Option Seen) → next p s f ≡ Moves b m → next p b (Take k) ≡ Moves (changed taking b) l →
-      next p (changed taking s) f ≡ changed_next taking (next p s f) → Crosses p (Take k) f a b l m
+      next p (changed taking s) f ≡ state_map (changed taking) (next p s f) → Crosses p (Take k) f a b l m
   crosses f b m e after same = record { state = changed taking b; one_after = after; other_after = behind taking p s b a f m t.is same e }
 
-  tick_changed : (ms : ℕ) → next p (changed taking s) (Tick ms) ≡ changed_next taking (next p s (Tick ms))
+  tick_changed : (ms : ℕ) → next p (changed taking s) (Tick ms) ≡ state_map (changed taking) (next p s (Tick ms))
   unfolding next
-  tick_changed ms = by_test (changed_next taking) (nat_le (s.clock + ms) LATEST) refl refl
+  tick_changed ms = by_test (state_map (changed taking)) (nat_le (s.clock + ms) LATEST) refl refl
 
-  io_changed : (v : Var) → next p (changed taking s) (Io v) ≡ changed_next taking (next p s (Io v))
+  io_changed : (v : Var) → next p (changed taking s) (Io v) ≡ state_map (changed taking) (next p s (Io v))
   unfolding next
-  io_changed v = by_test (changed_next taking) (nat_lt v.0 (length s.names)) (by (io_run p s s.place) (io_handle (live_handle s v))) refl where
-    by : (run : Option Run) (id : Option Id) → call_io p (changed taking s) v run id ≡ changed_next taking (call_io p s v run id)
+  io_changed v = by_test (state_map (changed taking)) (nat_lt v.0 (length s.names)) (by (io_run p s s.place) (io_handle (live_handle s v))) refl where
+    by : (run : Option Run) (id : Option Id) → call_io p (changed taking s) v run id ≡ state_map (changed taking) (call_io p s v run id)
     by None id = refl
     by (Some run) None = refl
     by (Some run) (Some id) = refl
 
   -- an async handle that is sent to
 
-  send_same : (v : Var) → next p (changed taking s) (Send v) ≡ changed_next taking (next p s (Send v))
+  send_same : (v : Var) → next p (changed taking s) (Send v) ≡ state_map (changed taking) (next p s (Send v))
   unfolding next
-  send_same v = by_test (changed_next taking) (nat_lt v.0 (length s.names))
+  send_same v = by_test (state_map (changed taking)) (nat_lt v.0 (length s.names))
       (ap (λ (x : Coded). Moves x.state (Some (seen.Send v x.code)))
       (send_changed taking (moved_leaves (λ n. n) (drop 1) (λ rs. slice_set rs k (Some t.id))) s
       (moved_hides (λ n. n) (drop 1) (λ rs. slice_set rs k (Some t.id)) s
@@ -150,12 +149,12 @@ module _ (p : Program) (s a : State) (k : ℕ) (l : Option Seen) (t : Takes s k 
     others : k ≡ j → ⊥
     others e = cc (t.idle, u.runs, e)
 
-    finish_changed : next p (changed taking s) (Finish j) ≡ changed_next taking (next p s (Finish j))
+    finish_changed : next p (changed taking s) (Finish j) ≡ state_map (changed taking) (next p s (Finish j))
     finish_changed = finish_next p (changed taking s) j u.id u.request
         (get_set_other s.running k j (Some t.id) (λ e. others (sym e)) ∙ u.runs) u.holds
         ∙ ap (λ (rs : List (Option Id)). Moves (ended (record (changed taking s) { running = rs }) u.id u.request (finished u.request).outcome)
         (Some (seen.Finish j u.request.name u.id))) (set_comm s.running k j (Some t.id) None others)
-        ∙ ap (changed_next taking) (sym (finish_next p s j u.id u.request u.runs u.holds))
+        ∙ ap (state_map (changed taking)) (sym (finish_next p s j u.id u.request u.runs u.holds))
 
     take_finished : next p b (Take k) ≡ Moves (changed taking b) l
     take_finished =

@@ -1,5 +1,5 @@
 -- What is found or not, and what is chosen, where both ways go on alike.
-use Rattle.uv_apart.proofs.Names.{◌≡◌, Bool, true, false, Option, Some, None, refl, ap, ◌∙◌, if◌then◌else◌, found_or}
+use Rattle.uv_apart.proofs.Names.{◌≡◌, Bool, true, false, Option, Some, None, refl, if◌then◌else◌, found_or}
 
 pub by_found : {A B D : Type 0} (to : B → D) (o : Option A) {f : A → B} {f' : A → D} {other : B} {other' : D} →
     ((x : A) → o ≡ Some x → f' x ≡ to (f x)) → other' ≡ to other → found_or o f' other' ≡ to (found_or o f other)

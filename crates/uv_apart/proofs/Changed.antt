@@ -1,5 +1,5 @@
 -- A state in which what the loop's own steps don't look at is changed, and the ops in it.
-use Rattle.uv_apart.proofs.Names.{◌≡◌, ℕ, List, [], ◌∷◌, ◌++◌, length, Bool, true, Option, Some, None, Result, Ok, Err, refl, ap, sym, ◌∙◌, arith, slice_get, slice_set, option_map, subst, list_any, same_Some, Id, Var, Code, HandleRecord, Slot, send_refusal, Slots, held, id_of, next_free, next_id, next_unused, taken_from, Content, Request, content_keeps, content_pends, is_used, handle_in, same_id, State, named, live, live_id, live_handle, live_request, as_handle, handle, with_handle, with_id, Coded, do_op}
+use Rattle.uv_apart.proofs.Names.{◌≡◌, ℕ, List, [], ◌∷◌, ◌++◌, length, Bool, true, Option, Some, None, Result, Ok, Err, refl, ap, sym, ◌∙◌, arith, slice_get, slice_set, option_map, subst, list_any, same_Some, Id, Var, Code, HandleRecord, Slot, send_refusal, Slots, held, id_of, next_free, next_id, next_unused, taken_from, Content, Request, content_keeps, content_pends, is_used, handle_in, same_id, State, named, live_id, live_handle, live_request, as_handle, handle, with_handle, with_id, Coded, do_op}
 use Rattle.uv_ids.specs.declared.code.Code.TheVariants.{Ok as Success}
 use Rattle.uv_script.specs.declared.op.Op.TheVariants as op
 use Rattle.uv_records.specs.Handles as records

@@ -1,5 +1,5 @@
 -- A slot that holds an open request: no step of the loop tells it, nor changes it.
-use Rattle.uv_apart.proofs.Names.{◌≡◌, ℕ, zero, suc, ◌==◌, List, [], ◌∷◌, ◌++◌, length, Bool, true, false, Option, Some, None, refl, ap, sym, subst, ◌∙◌, arith, not, ◌||◌, slice_get, slice_set, if◌then◌else◌, list_any, eq-eqb, eqb-true, elements, set_comm, same_Some, Id, Event, Program, HandleRecord, Slot, held, held_in, Content, Request, content_keeps, content_pends, handle_in, is_used, request_in, after, State, handle, request, has_id, IsOpened, has_new_middle, reached, is_open}
+use Rattle.uv_apart.proofs.Names.{◌≡◌, ℕ, suc, ◌==◌, List, [], ◌∷◌, ◌++◌, length, Bool, true, false, Option, Some, None, refl, ap, sym, subst, ◌∙◌, arith, not, ◌||◌, slice_get, slice_set, if◌then◌else◌, list_any, eq-eqb, eqb-true, elements, set_comm, same_Some, Id, Event, Program, HandleRecord, Slot, held, Content, Request, content_keeps, content_pends, is_used, request_in, after, State, handle, request, has_id, IsOpened, has_new_middle, reached, is_open}
 use Rattle.uv_work.specs.declared.content.Content.TheVariants as content
 use Rattle.uv_order.proofs.Documents.{holds_after}
 use Rattle.uv_apart.proofs.Changed.{Change, Leaves, Hides, seen_in}

@@ -1,9 +1,9 @@
 -- What each step of the loop keeps; and ticks, which may come before or behind one.
-use Rattle.uv_apart.proofs.Names.{if◌then◌else◌, ◌≡◌, ℕ, ◌+◌, List, [], ◌∷◌, ◌++◌, Bool, true, false, Option, Some, refl, ap, sym, ◌∙◌, nat_le, Id, Seen, Event, Loop, Tick, Range, Program, seen_of, state_of, LATEST, State, Next, Moves, Refuses, tick, reads_clock, Meets}
+use Rattle.uv_apart.proofs.Names.{if◌then◌else◌, ◌≡◌, ℕ, ◌+◌, List, [], ◌∷◌, ◌++◌, Bool, true, false, Option, Some, refl, ap, sym, ◌∙◌, nat_le, Id, Seen, Event, Loop, Tick, Range, Program, seen_of, state_of, LATEST, State, Next, Moves, Refuses, tick, reads_clock, Meets, state_map}
 use Rattle.uv_ids.specs.declared.seen.Seen.TheVariants as seen
 use Rattle.uv_model.specs.Next.{next}
 use Rattle.uv_apart.proofs.Changed.{Change, changed, Leaves, Hides, SameWork}
-use Rattle.uv_apart.proofs.Walk.{changed_next, next_changed}
+use Rattle.uv_apart.proofs.Walk.{next_changed}
 
 -- ---- a change of the clock, of who waits and of who runs
 
@@ -44,15 +44,15 @@ module _ (clock : ℕ → ℕ) (running : List (Option Id) → List (Option Id))
   timed_work = record { waiting = λ ids. refl; done = λ ids. refl; slots = λ slots. refl }
 
   pub next_timed : (p : Program) (s : State) → (reads_clock p s ≡ true → clock s.clock ≡ s.clock) →
-      next p (changed (timed clock running) s) Loop ≡ changed_next (timed clock running) (next p s Loop)
+      next p (changed (timed clock running) s) Loop ≡ state_map (changed (timed clock running)) (next p s Loop)
   next_timed p s time = next_changed p (timed clock running) (moved_leaves clock (λ ids. ids) running) s
       (moved_hides clock (λ ids. ids) running s (λ id. refl)) (λ e. timed_work) (λ e ids. refl) time
 
 -- ---- what each step keeps
 
 -- a step that goes alike in a state that is changed to itself, to a state that is changed to itself
-pub stays_changed : (c : Change) (x : Next) (a : State) (l : Option Seen) → x ≡ changed_next c x → x ≡ Moves a l → a ≡ changed c a
-stays_changed c x a l same e = ap (state_of a) (sym e ∙ same ∙ ap (changed_next c) e)
+pub stays_changed : (c : Change) (x : Next) (a : State) (l : Option Seen) → x ≡ state_map (changed c) x → x ≡ Moves a l → a ≡ changed c a
+stays_changed c x a l same e = ap (state_of a) (sym e ∙ same ∙ ap (state_map (changed c)) e)
 
 -- the loop's own step changes neither the clock nor what workers run
 pub loop_keeps : (p : Program) (s a : State) (l : Option Seen) → next p s Loop ≡ Moves a l → (a.clock ≡ s.clock) × (a.running ≡ s.running)
@@ -93,9 +93,9 @@ next_tick p s ms e = tick_ticks s ms e
 
 -- an event from the state that a change leads to does what it does before, changed
 pub behind : (c : Change) (p : Program) (s a b : State) (e : Event) (l : Option Seen) → b ≡ changed c s →
-    next p (changed c s) e ≡ changed_next c (next p s e) →
+    next p (changed c s) e ≡ state_map (changed c) (next p s e) →
     next p s e ≡ Moves a l → next p b e ≡ Moves (changed c a) l
-behind c p s a b e l is same goes = ap (λ (u : State). next p u e) is ∙ same ∙ ap (changed_next c) goes
+behind c p s a b e l is same goes = ap (λ (u : State). next p u e) is ∙ same ∙ ap (state_map (changed c)) goes
 
 pub ticks_apart : (p : Program) (s a b : State) (ms : ℕ) (l m : Option Seen) → reads_clock p s ≡ false → next p s Loop ≡ Moves a l →
     next p s (Tick ms) ≡ Moves b m → Meets p (Tick ms) a b l m

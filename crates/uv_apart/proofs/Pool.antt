@@ -1,5 +1,5 @@
 -- What a worker takes and finishes, before or behind a step of the loop.
-use Rattle.uv_apart.proofs.Names.{◌≡◌, ℕ, suc, List, [], ◌∷◌, ◌++◌, drop, Bool, true, false, Option, Some, None, Ok, Err, refl, ap, sym, subst, ◌∙◌, ◌||◌, slice_get, slice_set, or_right, same_Some, Id, Event, Loop, Take, Finish, IdleWorker, NoWork, Seen, Program, Slot, Content, Request, after, seen_of, state_of, found_or, same_id, State, front_request, request, with_id, ended, Moves, Refuses, next_work, take, work_of, finish, has_id, run_ids, has_both, itself, reached, cancels, is_apart, Meets, Why, digest_of, text_of, Finished, IsReached}
+use Rattle.uv_apart.proofs.Names.{◌≡◌, ℕ, suc, List, [], ◌∷◌, ◌++◌, drop, Bool, true, false, Option, Some, None, Ok, Err, refl, ap, sym, subst, ◌∙◌, ◌||◌, slice_get, slice_set, or_right, same_Some, Id, Event, Loop, Take, Finish, IdleWorker, NoWork, Seen, Program, Slot, Content, Request, after, seen_of, state_of, found_or, same_id, State, front_request, request, with_id, ended, Moves, Refuses, next_work, take, work_of, finish, has_id, run_ids, has_both, itself, reached, cancels, is_apart, Meets, Why, digest_of, text_of, Finished, IsReached, state_map}
 use Rattle.uv_ids.specs.declared.seen.Seen.TheVariants as seen
 use Rattle.uv_work.specs.declared.content.Content.TheVariants as content
 use Rattle.uv_model.specs.State.{request as held_request}
@@ -7,7 +7,7 @@ use Rattle.uv_model.specs.Next.{next}
 use Rattle.uv_model.proofs.Runs.{after-moves}
 use Rattle.uv_apart.proofs.Cancels.{apart_cancels}
 use Rattle.uv_apart.proofs.Changed.{changed}
-use Rattle.uv_apart.proofs.Walk.{changed_next, next_changed}
+use Rattle.uv_apart.proofs.Walk.{next_changed}
 use Rattle.uv_apart.proofs.Held.{asked, get_set_same, set_there, request_there, Holds, holds_open, working, working_leaves, working_hides}
 use Rattle.uv_apart.proofs.Kept.{behind, loop_keeps, moved, moved_hides, moved_leaves, stays_changed}
 
@@ -164,7 +164,7 @@ take_refuses p s a k l why no_cancel e f =
     ∙ next_changed p c (moved_leaves (λ n. n) (drop 1) take) s
     (moved_hides (λ n. n) (drop 1) take s (λ i. front_stays s.waiting (drop 1 s.waiting) t.id i it.waiting))
     (λ g. cc (no_cancel, g)) (λ g ids. refl) (λ g. refl)
-    ∙ ap (changed_next c) f
+    ∙ ap (state_map (changed c)) f
 
 -- ---- finish
 

@@ -1,38 +1,18 @@
 -- A step of the loop from a state in which what it doesn't look at is changed: it is a change of the state.
-use Rattle.uv_apart.proofs.Names.{◌≡◌, ◌∙◌, ◌==◌, ◌+◌, List, [], ◌∷◌, true, false, Option, Some, None, Result, Ok, Err, refl, ap, ap₂, sym, subst, arith, nat_le, map-id, same_Some, is_some, Code, Loop, Id, Seen, Program, arena_size, Op, HandleRecord, freed, held, Content, Request, Place, Main, Running, Stage, Poll, Polled, Body, State, front_request, live_id, live_request, named, request, with_id, cancel, Next, Moves, Refuses, cancels, place_asks_done, run_asks_done, reads_clock, is_apart, is_apart_at, is_apart_run, Answer, same, changed_answer, changed_content, changed_line, changed_place, IsExact}
+use Rattle.uv_apart.proofs.Names.{◌≡◌, ◌∙◌, ◌==◌, ◌+◌, List, [], ◌∷◌, true, false, Option, Some, None, Result, Ok, Err, refl, ap, ap₂, sym, subst, arith, nat_le, map-id, same_Some, is_some, Code, Loop, Id, Seen, Program, arena_size, Op, HandleRecord, freed, held, Content, Request, Place, Main, Running, Body, State, front_request, live_id, live_request, named, request, with_id, cancel, Next, Moves, Refuses, cancels, place_asks_done, reads_clock, is_apart, is_apart_at, Answer, same, changed_answer, changed_content, changed_line, changed_place, IsExact, next_map, state_map}
 use Rattle.uv_work.specs.declared.content.Content.TheVariants as content
 use Rattle.uv_model.specs.Next.{next}
 use Rattle.uv_alike.specs.Changed as whole
 use Rattle.uv_alike.specs.Hides.{Hides as HidesChange}
 use Rattle.uv_alike.proofs.Exact.{loop_exact}
 use Rattle.uv_alike.proofs.Ops.{Reads, Cancels, found_handle}
-use Rattle.uv_alike.proofs.Same.{work_same, option_same, lines_same, main_same, lists_same, stage_same}
+use Rattle.uv_alike.proofs.Same.{work_same, option_same, lines_same, main_same, lists_same, stage_same, times_same}
 use Rattle.uv_apart.proofs.Cases.{by_test}
 use Rattle.uv_apart.proofs.Changed.{Change, changed, changed_arena, Leaves, Hides, SameDone, SameWork, seen_in, handle_changed, live_handle_changed, next_free_changed, taken_changed, cancel_changed}
 
 -- the state after a step, changed
-abbrev pub changed_next : Change → Next → Next
-changed_next c (Moves s line) = Moves (changed c s) line
-changed_next c (Refuses why) = Refuses why
-
 abbrev as_change : Change → whole.Change
-as_change c = record {
-  var = λ v. v;
-  id = λ x. x;
-  slots = c.slots;
-  free = λ ns. ns;
-  due = λ due. due;
-  due_in = λ active k due. due;
-  time = λ n. n;
-  clock = c.clock;
-  start = λ n. n;
-  names = λ ns. ns;
-  count = λ n. n;
-  waits = c.waiting;
-  runs = c.running;
-  ends = c.done;
-  work = same;
-}
+as_change c = record whole.unchanged { slots = c.slots; clock = c.clock; waits = c.waiting; runs = c.running; ends = c.done }
 
 -- where who is done is asked, the step isn't apart
 asks_no_done : (p : Program) (place : Place) → place_asks_done place ≡ true → is_apart_at p place ≡ false
@@ -60,7 +40,7 @@ module _ (p : Program) (c : Change) where
   changed_same : (s : State) → whole.changed (as_change c) s ≡ changed c s
   changed_same s = lists_same (as_change c) (λ x. refl) s ∙ (λ i. record (changed c s) { place = place_same s.place i; timers = map-id s.timers i })
 
-  next_same : (x : Next) → whole.changed_next (as_change c) p x ≡ changed_next c x
+  next_same : (x : Next) → next_map (whole.changed (as_change c)) (changed_line (as_change c) p) x ≡ state_map (changed c) x
   next_same (Moves s line) = ap₂ Moves (changed_same s) (option_same _ line_same line)
   next_same (Refuses why) = refl
 
@@ -73,17 +53,7 @@ module _ (p : Program) (c : Change) where
       keeps = hides.keeps;
       pends = hides.pends;
       uses = hides.used;
-      order = λ a b. refl;
-      passed = λ a. refl;
-      left = λ a. refl;
-      rests = λ active k due e. refl;
-      ticks = λ k due e. refl;
-      more = refl;
-      repeats = λ x h e. refl;
-      starts = λ at v timeout repeat e. refl;
-      fires = λ t e due. refl;
-      falls = λ t e due. refl;
-      waits = λ n. refl;
+      times = times_same p s;
       known = λ v. refl;
       binds = λ v x e. refl;
       lines = λ kind v n. lines_same (as_change c) (λ v. refl) (λ t. refl) _;
@@ -158,7 +128,7 @@ module _ (p : Program) (c : Change) where
 
 pub next_changed : (p : Program) (c : Change) (leaves : Leaves c) (s : State) (hides : Hides c s) →
     (cancels p s ≡ true → SameWork c) → (is_apart p s ≡ false → SameDone c) → (reads_clock p s ≡ true → c.clock s.clock ≡ s.clock) →
-    next p (changed c s) Loop ≡ changed_next c (next p s Loop)
+    next p (changed c s) Loop ≡ state_map (changed c) (next p s Loop)
 next_changed p c leaves s hides work done time =
     ap (λ (u : State). next p u Loop) (sym (changed_same p c s))
     ∙ loop_exact (as_change c) p s (exact p c leaves s hides) (hides_change p c leaves s hides) (reads_change p c leaves s hides work done time)

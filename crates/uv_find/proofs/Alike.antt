@@ -1,7 +1,6 @@
 -- Places of whose states the same is told, with as much left and kept, go on alike.
-use Rattle.uv_find.proofs.Names.{◌≡◌, ℕ, ◌+◌, ◌-◌, ◌<◌, ◌≤◌, ◌&&◌, not, Bool, true, false, List, [], ◌∷◌, ◌++◌, length, Option, Some, None, inl, inr, nat_le, nat_lt, refl, ap, ap₂, sym, subst, ◌∙◌, arith, if◌then◌else◌, ltb-true, Event, Loop, Take, Finish, Cancel, Send, Io, Tick, Id, Var, Callback, Seen, held, Content, Program, arena_size, LATEST, Next, Moves, Refuses, State, named, ClockFits, IsShort, told_line, IsRegular, LeadsRegular, StepsAlike, NextAlike, is_of_worker, next_by, AreDeclared, tale, Reads, reads_alike, Most, Offer, Offered, Question, Kept, Left, LONG, LONGEST, is_common, most_end, due_under, due_else, due_in, due_of, kept_due, is_timer, Rules, Place, aim, is_made, is_free, spending, step_of, is_blocked, refused_as_blocked, deadline_at, wait_until, take_by, may_last, ends_within, is_in_poll, wait_for, idle_worker, by_rank, ranked, is_in_timers, is_quiet, event_of, timed, is_brief, brief, may_take, offered_here, offered_by, is_called_within, is_within, Spot, CanForget, IsSpot, AreBrief, is_few}
+use Rattle.uv_find.proofs.Names.{◌≡◌, ℕ, ◌+◌, ◌<◌, ◌≤◌, ◌&&◌, not, Bool, true, false, List, [], ◌∷◌, length, Option, Some, None, inl, inr, nat_le, refl, ap, ap₂, sym, subst, ◌∙◌, arith, if◌then◌else◌, ltb-true, Event, Loop, Take, Finish, Send, Tick, Id, Var, Callback, Seen, held, Content, Program, arena_size, LATEST, Next, State, named, ClockFits, IsShort, told_line, IsRegular, LeadsRegular, StepsAlike, NextAlike, is_of_worker, next_by, AreDeclared, tale, Reads, reads_alike, Most, Offer, Offered, Question, Kept, Left, LONG, LONGEST, is_common, most_end, due_under, due_else, due_in, kept_due, Rules, Place, aim, is_made, is_free, spending, step_of, is_blocked, refused_as_blocked, deadline_at, wait_until, take_by, may_last, ends_within, is_in_poll, wait_for, idle_worker, ranked, is_in_timers, is_quiet, event_of, timed, is_brief, brief, offered_by, is_called_within, is_within, Spot, CanForget, IsSpot, is_few}
 use Rattle.uv_ids.specs.declared.seen.Callback.TheVariants as callback
-use Rattle.uv_work.specs.declared.content.Content.TheVariants as content
 use Rattle.uv_model.specs.After.{after}
 use Rattle.uv_model.specs.Next.{next}
 use Rattle.uv_shift.proofs.Reached.{after_timed}
@@ -15,7 +14,7 @@ use Rattle.uv_find.proofs.Clocks.{after_clock}
 use Rattle.uv_find.proofs.Led.{length_more, state_behind}
 use Rattle.uv_find.proofs.Lines.{plain_line}
 use Rattle.uv_find.proofs.Runners.{EventsAlike, OffersAlike, finishes_alike, takes_alike}
-use Rattle.uv_find.proofs.Readings.{is_bound, reads_bound, is_shut, reads_shut, count, reads_count, within_capped, reads_quiet, reads_timers, until, wait_of, reads_wait, reads_in_poll, Waits, lag_by, lag_of, lag_under, lag, reads_lag}
+use Rattle.uv_find.proofs.Readings.{is_bound, reads_bound, is_shut, reads_shut, count, reads_count, reads_quiet, reads_timers, until, wait_of, reads_wait, reads_in_poll, Waits, lag_by, lag_of, lag_under, lag, reads_lag}
 use Rattle.uv_find.proofs.Readings as readings
 
 -- of a timer that is asked about it is the same how late the clock is for what is kept of it
@@ -76,34 +75,15 @@ module _ (r : Rules) (n : ℕ) (forget : r.forget ≡ Some n) (can : CanForget r
       regular_by s.place.state s.steps is.state (omega (arith, few))
 
   spot_clock : (s : Spot) → IsSpot r s → s.place.state.clock + LONG ≤ LATEST
-  spot_clock s is =
-      let few = few_steps s is in
-      let here : s.place.state.clock ≡ (after r.program s.steps).clock = ap (λ (u : State). u.clock) is.state in
-      let l = after_clock r.program n s.steps (subst (λ (o : Option ℕ). AreBrief o s.steps) forget is.brief) in
-      omega (arith, few, here, l)
+  spot_clock s is = grind (arith, few_steps, after_clock)
 
   -- a brief event doesn't take the clock to its limit
   pub spot_fits : (s : Spot) (e : Event) → IsSpot r s → is_brief (Some n) e ≡ true → ClockFits s.place.state e
-  spot_fits s (Tick ms) is short =
-      let l = spot_clock s is in
-      let few = ltb-true ms LONG short in
-      omega (arith, l, few)
-  spot_fits s Loop is short = tt
-  spot_fits s (Take worker) is short = tt
-  spot_fits s (Finish worker) is short = tt
-  spot_fits s (Cancel v) is short = tt
-  spot_fits s (Send v) is short = tt
-  spot_fits s (Io v) is short = tt
+  spot_fits s each is short = grind (arith, spot_clock, ltb-true)
 
   -- a step from a place leads to what is regular
   leads_regular : (w : Spot) → IsSpot r w → (e : Event) → LeadsRegular r.program (next r.program w.place.state e)
-  leads_regular w is e = by (next r.program w.place.state e) refl where
-    by : (x : Next) → next r.program w.place.state e ≡ x → LeadsRegular r.program x
-    by (Refuses why) goes = tt
-    by (Moves u line) goes =
-        let few = few_steps w is in
-        let long = length_more w.steps e in
-        regular_by u (w.steps ++ e ∷ []) (state_behind r w e u line is goes) (omega (arith, few, long))
+  leads_regular w is e = grind (arith, few_steps, length_more, regular_by, state_behind)
 
   pub spot_going : (s : Spot) → IsSpot r s → IsGoing r.program n s.place
   spot_going s is = record { regular = spot_regular s is; fits = λ e. spot_fits s e is; leads = leads_regular s is }
@@ -122,7 +102,7 @@ module _ (r : Rules) (n : ℕ) (forget : r.forget ≡ Some n) (can : CanForget r
     within_one most below =
         let f : ℕ → Bool = λ c. nat_le c most.calls in
         let same_calls = λ (kind : Callback). both (λ s. f (count kind most.name s))
-        (reads_count f n (within_capped most.calls n below) kind most.name) in
+        (reads_count f n (grind arith) kind most.name) in
         λ i. same_calls callback.Handle i && same_calls callback.After i && same_calls callback.Close i
 
     pub within_alike : (most : List Most) → most_end most ≤ n → is_within most a ≡ is_within most b
@@ -137,31 +117,17 @@ module _ (r : Rules) (n : ℕ) (forget : r.forget ≡ Some n) (can : CanForget r
     DueBy readings.waits clock was other is = is ≡ was
     DueBy readings.none clock was other is = is ≡ clock
 
-    due_handle : (timer active pending : Bool) (at clock was other : ℕ) →
-        DueBy (lag_by timer active pending (clock - at) (at - clock)) clock was other (due_of timer active pending at was other clock)
-    due_handle true true pending at clock was other = omega arith
-    due_handle true false pending at clock was other = refl
-    due_handle false active true at clock was other = refl
-    due_handle false active false at clock was other = refl
-
     due_content : (clock was other : ℕ) (o : Option Content) → DueBy (lag_of clock o) clock was other (due_in o was other clock)
-    due_content clock was other None = refl
-    due_content clock was other (Some (content.Handle h)) = due_handle (is_timer h.kind) h.active h.pending h.due.at clock was other
-    due_content clock was other (Some (content.Request q)) = refl
+    due_content clock was other each = grind arith
 
     due_by_lag : (s : State) (was : ℕ) (o : Option Id) → DueBy (lag_under s o) s.clock was (due_else s was) (due_under s o was)
-    due_by_lag s was None = refl
-    due_by_lag s was (Some id) = due_content s.clock was (due_else s was) (held s.arena.slots id)
+    due_by_lag s was o = grind (arith, due_content, held)
 
     by_lag : (l : Waits) (x y u v o p d e : ℕ) → DueBy l x u o d → DueBy l y v p e → x + v ≡ y + u → x + p ≡ y + o → x + e ≡ y + d
-    by_lag (readings.due ago ahead) x y u v o p d e h k same others = omega (arith, h, k)
-    by_lag readings.idle x y u v o p d e h k same others = omega (arith, h, k, others)
-    by_lag readings.waits x y u v o p d e h k same others = omega (arith, h, k, same)
-    by_lag readings.none x y u v o p d e h k same others = omega (arith, h, k)
+    by_lag each x y u v o p d e h k same others = grind arith
 
     else_by : (in_timers : Bool) (x y d e : ℕ) → x + e ≡ y + d → x + (if in_timers then e else y) ≡ y + (if in_timers then d else x)
-    else_by true x y d e same = same
-    else_by false x y d e same = omega arith
+    else_by in_timers x y d e same = grind arith
 
     else_alike : (d e : ℕ) → a.clock + e ≡ b.clock + d → a.clock + due_else b e ≡ b.clock + due_else a d
     else_alike d e same =
@@ -175,8 +141,7 @@ module _ (r : Rules) (n : ℕ) (forget : r.forget ≡ Some n) (can : CanForget r
         let lags = both (lag name) (reads_lag n name) in
         by_lag (lag name a) a.clock b.clock d e (due_else a d) (due_else b e) (due_under a (named a name).id d)
         (due_under b (named b name).id e) (due_by_lag a d (named a name).id)
-        (subst (λ l. DueBy l b.clock e (due_else b e) (due_under b (named b name).id e)) (sym lags)
-        (due_by_lag b e (named b name).id)) same (else_alike d e same)
+        (grind (arith, named, due_by_lag)) same (else_alike d e same)
 
     pub kept_due_alike : (question : Question) (d e : ℕ) → DueAlike question a.clock d b.clock e →
         DueAlike question a.clock (kept_due question a d) b.clock (kept_due question b e)
@@ -209,10 +174,7 @@ module _ (r : Rules) (n : ℕ) (forget : r.forget ≡ Some n) (can : CanForget r
     same_read R reads = both a b hs.regular ht.regular alike.state R reads
 
     blocked_by : (x y : Next) → NextGoes r.program n a b x y → refused_as_blocked x ≡ refused_as_blocked y
-    blocked_by (Moves u line) (Moves v other) h = refl
-    blocked_by (Refuses why) (Refuses other) h = ap (λ w. refused_as_blocked (Refuses w)) h
-    blocked_by (Moves u line) (Refuses other) h = absurd h
-    blocked_by (Refuses why) (Moves v other) h = absurd h
+    blocked_by each e1 h = grind arith
 
     -- events that do alike lead on alike
     pub goes_alike : (e f : Event) → EventsAlike a b e f → is_brief (Some n) e ≡ true
@@ -245,38 +207,22 @@ module _ (r : Rules) (n : ℕ) (forget : r.forget ≡ Some n) (can : CanForget r
     blocked_alike = blocked_by (next r.program a Loop) (next r.program b Loop) (goes_alike Loop Loop (inl (refl, refl)) refl)
 
     free_alike : (e : Event) → is_free a k e ≡ is_free b l e
-    free_alike (Io v) = ap (λ o. not (nat_lt 0 o)) alike.owed
-    free_alike (Tick ms) = ap (λ o. not (nat_lt 0 o)) alike.owed
     free_alike (Send v) =
         ap₂ (λ x y. not x && not y) (same_read (λ u. is_quiet u.place) (reads_quiet n)) (same_read (is_shut v) (reads_shut n v))
-    free_alike Loop = refl
-    free_alike (Take worker) = refl
-    free_alike (Finish worker) = refl
-    free_alike (Cancel v) = refl
+    free_alike each = grind arith
 
     spending_alike : (e : Event) → spending k e ≡ spending l e
-    spending_alike Loop = ap (λ o. if nat_lt 0 o then Tick o else Loop) alike.owed
-    spending_alike (Io v) = refl
-    spending_alike (Tick ms) = refl
-    spending_alike (Send v) = refl
-    spending_alike (Take worker) = refl
-    spending_alike (Finish worker) = refl
-    spending_alike (Cancel v) = refl
+    spending_alike each = grind arith
 
     step_alike : (e : Event) → step_of a k e ≡ step_of b l e
-    step_alike e =
-        let made = made_alike a b hs.regular ht.regular alike.state (aim e) in
-        let free = free_alike e in
-        let spent = spending_alike e in
-        λ i. if made i && free i then Some (spent i) else None
+    step_alike e = grind (arith, made_alike, free_alike, spending_alike)
 
     abbrev waits : Bool → Option ℕ → Option Event
     waits blocked None = None
     waits blocked (Some ms) = if blocked then Some (Tick ms) else None
 
     waits_is : (u : State) (deadline : Option ℕ) → wait_until r.program u deadline ≡ waits (is_blocked r.program u) (until u.clock deadline)
-    waits_is u None = refl
-    waits_is u (Some deadline) = refl
+    waits_is u deadline = grind arith
 
     wait_alike : wait_until r.program a (deadline_at a.place) ≡ wait_until r.program b (deadline_at b.place)
     wait_alike =
@@ -287,8 +233,7 @@ module _ (r : Rules) (n : ℕ) (forget : r.forget ≡ Some n) (can : CanForget r
     within (Some left) ms = nat_le ms left
 
     within_is : (clock : ℕ) (deadline : Option ℕ) (ms : ℕ) → ends_within deadline clock ms ≡ within (until clock deadline) ms
-    within_is clock None ms = refl
-    within_is clock (Some deadline) ms = refl
+    within_is clock deadline ms = grind arith
 
     lasts_alike : (ms : ℕ) → may_last a ms ≡ may_last b ms
     lasts_alike ms =
@@ -306,29 +251,10 @@ module _ (r : Rules) (n : ℕ) (forget : r.forget ≡ Some n) (can : CanForget r
     takes_both = takes_alike n r.program a b hs.regular ht.regular alike.state
 
     take_same : (u : State) (o : Option ℕ) → ranked (Some n) u (take_by o) ≡ take_by o
-    take_same u None = refl
-    take_same u (Some worker) = refl
-
-    same_event : (x : Event) → is_of_worker x ≡ false → OffersAlike a b (by_rank a x) (by_rank b x)
-    same_event Loop other = inl (refl, refl)
-    same_event (Take worker) other = absurd (let g : true ≡ false = other in cc)
-    same_event (Finish rank) other = absurd (let g : true ≡ false = other in cc)
-    same_event (Cancel v) other = inl (refl, refl)
-    same_event (Send v) other = inl (refl, refl)
-    same_event (Io v) other = inl (refl, refl)
-    same_event (Tick ms) other = inl (refl, refl)
+    take_same u o = grind arith
 
     spends : (e : Event) → is_of_worker e ≡ false → is_of_worker (spending k e) ≡ false
-    spends Loop other = by (nat_lt 0 k.owed) where
-      by : (b : Bool) → is_of_worker (if b then Tick k.owed else Loop) ≡ false
-      by true = refl
-      by false = refl
-    spends (Take worker) other = other
-    spends (Finish rank) other = other
-    spends (Cancel v) other = refl
-    spends (Send v) other = refl
-    spends (Io v) other = refl
-    spends (Tick ms) other = refl
+    spends each other = grind arith
 
     other_step : (e : Event) → is_of_worker e ≡ false
         → OffersAlike a b (ranked (Some n) a (step_of a k e)) (ranked (Some n) b (step_of b l e))
@@ -338,38 +264,19 @@ module _ (r : Rules) (n : ℕ) (forget : r.forget ≡ Some n) (can : CanForget r
       where
         by : (may : Bool) → OffersAlike a b (ranked (Some n) a (if may then Some (spending k e) else None))
             (ranked (Some n) b (if may then Some (spending k e) else None))
-        by true = same_event (spending k e) (spends e other)
-        by false = tt
+        by may = grind arith
 
     stepped : (e : Event) → is_common (offers.Step e) ≡ true
         → OffersAlike a b (ranked (Some n) a (step_of a k e)) (ranked (Some n) b (step_of b l e))
-    stepped (Finish rank) h = finishes_alike n r.program a b hs.regular ht.regular alike.state rank
     stepped (Take worker) h = absurd (let g : false ≡ true = h in cc)
-    stepped Loop h = other_step Loop refl
-    stepped (Cancel v) h = other_step (Cancel v) refl
-    stepped (Send v) h = other_step (Send v) refl
-    stepped (Io v) h = other_step (Io v) refl
-    stepped (Tick ms) h = other_step (Tick ms) refl
+    stepped each h = search (finishes_alike, other_step)
 
     waited : (blocked : Bool) (ms : Option ℕ)
         → OffersAlike a b (ranked (Some n) a (waits blocked ms)) (ranked (Some n) b (waits blocked ms))
-    waited blocked None = tt
-    waited true (Some ms) = inl (refl, refl)
-    waited false (Some ms) = tt
+    waited each e1 = grind arith
 
     event_alike : (offer : Offer) → is_common offer ≡ true →
         OffersAlike a b (ranked (Some n) a (event_of r.program a k offer)) (ranked (Some n) b (event_of r.program b l offer))
-    event_alike (offers.Step e) h = stepped e h
-    event_alike (offers.SendDuring v job) h = absurd (let g : false ≡ true = h in cc)
-    event_alike offers.Take h =
-        subst (λ x. OffersAlike a b x (ranked (Some n) b (take_by (idle_worker b)))) (sym (take_same a (idle_worker a)))
-        (subst (λ y. OffersAlike a b (take_by (idle_worker a)) y) (sym (take_same b (idle_worker b))) takes_both)
-    event_alike offers.Wait h =
-        let here = waits_is a (deadline_at a.place) in
-        let wait = waits (is_blocked r.program a) (until a.clock (deadline_at a.place)) in
-        subst (λ x. OffersAlike a b (ranked (Some n) a x) (ranked (Some n) b (wait_until r.program b (deadline_at b.place)))) (sym here)
-        (subst (λ y. OffersAlike a b (ranked (Some n) a wait) (ranked (Some n) b y))
-        (sym here ∙ wait_alike) (waited (is_blocked r.program a) (until a.clock (deadline_at a.place))))
     event_alike (offers.WaitFor ms) h =
         subst (λ y. OffersAlike a b (ranked (Some n) a (wait_for r.program a ms)) (ranked (Some n) b y)) (wait_for_alike ms)
         (by (may_last a ms) (is_blocked r.program a))
@@ -379,47 +286,19 @@ module _ (r : Rules) (n : ℕ) (forget : r.forget ≡ Some n) (can : CanForget r
         by true true = inl (refl, refl)
         by true false = tt
         by false y = tt
+    event_alike each h = grind (arith, stepped, take_same, takes_both, waits_is, wait_alike, waited, wait_for_alike)
 
     -- ---- within the bounds
 
     brief_is : (e f : Event) → EventsAlike a b e f → is_brief (Some n) e ≡ is_brief (Some n) f
-    brief_is e f (inl h) = ap (is_brief (Some n)) h.0
-    brief_is e f (inr (inl h)) = ap (is_brief (Some n)) h.one ∙ sym (ap (is_brief (Some n)) h.two)
-    brief_is e f (inr (inr h)) = ap (is_brief (Some n)) h.one ∙ sym (ap (is_brief (Some n)) h.two)
+    brief_is e f each = grind arith
 
     brief_alike : (x y : Option Event) → OffersAlike a b x y → OffersAlike a b (brief (Some n) x) (brief (Some n) y)
-    brief_alike None None h = tt
-    brief_alike None (Some f) h = absurd h
-    brief_alike (Some e) None h = absurd h
-    brief_alike (Some e) (Some f) h = by (is_brief (Some n) e) (is_brief (Some n) f) (brief_is e f h) where
-      by : (p q : Bool) → p ≡ q → OffersAlike a b (if p then Some e else None) (if q then Some f else None)
-      by true true same = h
-      by false false same = tt
-      by true false same = absurd cc
-      by false true same = absurd cc
+    brief_alike each e1 h = grind arith
 
     unbounded : (clock : ℕ) (o : Option Event) → timed None clock o ≡ o
-    unbounded clock None = refl
-    unbounded clock (Some e) = refl
+    unbounded clock o = grind arith
 
     pub offered_alike : (offered : Option Offered) (x : Option Left) → ((o : Offered) → offered ≡ Some o → is_common o.offer ≡ true) →
         OffersAlike a b (offered_by r s offered x) (offered_by r t offered x)
-    offered_alike None x common = tt
-    offered_alike (Some o) None common = tt
-    offered_alike (Some o) (Some x) common =
-        let here = event_of r.program a k o.offer in
-        let there = event_of r.program b l o.offer in
-        let one = λ (u : State) (e : Option Event). sym (ap (λ m. timed m u.clock e) can.clock ∙ unbounded u.clock e) in
-        subst (λ g. OffersAlike a b (brief g (ranked g a (offered_here r.program r.clock a k o.offer x)))
-        (brief g (ranked g b (offered_here r.program r.clock b l o.offer x)))) (sym forget)
-        (subst (λ u. OffersAlike a b (brief (Some n) (ranked (Some n) a (if may_take x then u else None)))
-        (brief (Some n) (ranked (Some n) b (offered_here r.program r.clock b l o.offer x)))) (one a here)
-        (subst (λ v. OffersAlike a b (brief (Some n) (ranked (Some n) a (if may_take x then here else None)))
-        (brief (Some n) (ranked (Some n) b (if may_take x then v else None)))) (one b there)
-        (by (may_take x))))
-      where
-        by : (may : Bool) → OffersAlike a b (brief (Some n) (ranked (Some n) a (if may then event_of r.program a k o.offer else None)))
-            (brief (Some n) (ranked (Some n) b (if may then event_of r.program b l o.offer else None)))
-        by true = brief_alike (ranked (Some n) a (event_of r.program a k o.offer)) (ranked (Some n) b (event_of r.program b l o.offer))
-            (event_alike o.offer (common o refl))
-        by false = tt
+    offered_alike each e1 common = grind (arith, timed, unbounded, brief_alike, event_alike)

@@ -1,10 +1,9 @@
 -- A move that is held back does behind the loop's step what it does before it.
-use Rattle.uv_find.proofs.Names.{◌≡◌, ℕ, suc, ◌+◌, ◌&&◌, Bool, true, false, List, [], ◌∷◌, length, nat_lt, nat_le, is_none, slice_get, slice_set, refl, sym, ap, subst, ◌∙◌, Option, Some, None, Result, if◌then◌else◌, arith, position_from, elements, same_Some, none-some, Event, Id, Var, Why, Seen, Callback, Named, Program, Request, Run, State, named, live_handle, Moves, Refuses, next_work, finish, work_of, tick, io_run, io_handle, call_io, LATEST, count_of, is_apart, Offer, Step, SendDuring, Wait, WaitFor, Which, Question, Recorded, Along, Kept, Left, Most, can_meet, asks_late, is_at_will, may_take_io, kept_after, kept_due, owed_after, along_after, owes, time_at_end, Rules, Place, is_made, is_free, is_within, take_by, event_of, step_of, wait_until, deadline_at, lessened, lessened_by, may_last, wait_for, is_blocked, keys_run, idle_worker, finish_by, ranked, is_call, line_answers, place_answers, is_uncalled, Range}
+use Rattle.uv_find.proofs.Names.{◌≡◌, ℕ, suc, ◌+◌, Bool, true, false, List, [], ◌∷◌, length, nat_lt, nat_le, slice_get, slice_set, ap, ◌∙◌, Option, Some, None, Result, if◌then◌else◌, arith, elements, Event, Id, Var, Why, Seen, Callback, Named, Program, Request, Run, State, named, live_handle, Moves, Refuses, next_work, finish, work_of, tick, io_run, io_handle, call_io, LATEST, is_apart, Offer, Which, Question, Recorded, Along, Kept, Left, Most, can_meet, asks_late, is_at_will, may_take_io, kept_after, kept_due, owed_after, along_after, owes, time_at_end, Rules, Place, is_within, take_by, event_of, lessened, lessened_by, keys_run, finish_by, ranked, is_call, line_answers, place_answers, is_uncalled, Range}
 use Rattle.uv_ids.specs.declared.event.Event.TheVariants as event
 use Rattle.uv_ids.specs.declared.seen.Seen.TheVariants as seen
 use Rattle.uv_model.specs.Next.{next, take}
 use Rattle.uv_records.specs.Names as names
-use Rattle.uv_asking.specs.declared.asking.Offer.TheVariants.{Take}
 use Rattle.uv_find.specs.declared.left.Left.TheVariants as left
 use Rattle.uv_find.proofs.Keys.{runner_same}
 
@@ -57,48 +56,10 @@ comes_outside p s ticks e may none b m comes = grind (arith, no_io)
 
 module _ (p : Program) (s a : State) (l : Option Seen) (k j : Kept) (goes : next p s event.Loop ≡ Moves a l) (idle : owes k ≡ false)
     (still : owes j ≡ false) (running : a.running ≡ s.running) where
-  is_io : (v : Var) (e : Event) → event_of p s k (Step (event.Io v)) ≡ Some e → e ≡ event.Io v
-  is_io v e h = by (is_made s (Some v) && is_free s k (event.Io v)) h where
-    by : (c : Bool) → (if c then Some (event.Io v) else None) ≡ Some e → e ≡ event.Io v
-    by true g = sym (same_Some (event.Io v) e g)
-    by false g = absurd (none-some e g)
-
-  waits_none : (deadline : Option ℕ) → wait_until p s deadline ≡ None
-  waits_none None = refl
-  waits_none (Some deadline) = rw goes refl
-
-  waits_for_none : (ms : ℕ) → wait_for p s ms ≡ None
-  waits_for_none ms = by (may_last s ms) where
-    by : (b : Bool) → (if b then (if is_blocked p s then Some (event.Tick ms) else None) else None) ≡ None
-    by true = rw goes refl
-    by false = refl
-
   -- it is from outside, or a callback of I/O; and what is from outside stays
   pub event_stays : (ticks : Bool) (offer : Offer) (e : Event) → can_meet ticks offer ≡ true → event_of p s k offer ≡ Some e
       → (may_come ticks e ≡ true) × (is_outside ticks e ≡ true → event_of p a j offer ≡ Some e)
-  event_stays ticks Take e of h = (
-    taken_by (idle_worker s) ticks e h,
-    λ out. ap (λ (runs : List (Option Id)). take_by (position_from (λ run. is_none run) 0 runs)) running ∙ h,
-  )
-  event_stays ticks Wait e of h = absurd (none-some e (sym (waits_none (deadline_at s.place)) ∙ h))
-  event_stays ticks (WaitFor ms) e of h = absurd (none-some e (sym (waits_for_none ms) ∙ h))
-  event_stays ticks (SendDuring v job) e of h = absurd (let f : false ≡ true = of in cc)
-  event_stays ticks (Step (event.Finish worker)) e of h =
-      (subst (λ x. may_come ticks x ≡ true) (same_Some (event.Finish worker) e h) refl, λ out. h)
-  event_stays ticks (Step (event.Tick ms)) e of h =
-      let now : step_of s k (event.Tick ms) ≡ Some (event.Tick ms) = rw idle refl in
-      let later : step_of a j (event.Tick ms) ≡ Some (event.Tick ms) = rw still refl in
-      let is = same_Some (event.Tick ms) e (sym now ∙ h) in
-      (subst (λ x. may_come ticks x ≡ true) is of, λ out. later ∙ ap Some is)
-  event_stays ticks (Step (event.Io v)) e of h =
-      let is = is_io v e h in (
-        subst (λ x. may_come ticks x ≡ true) (sym is) refl,
-        λ out. absurd (let f : false ≡ true = subst (λ x. is_outside ticks x ≡ true) is out in cc),
-      )
-  event_stays ticks (Step event.Loop) e of h = absurd (let f : false ≡ true = of in cc)
-  event_stays ticks (Step (event.Take worker)) e of h = absurd (let f : false ≡ true = of in cc)
-  event_stays ticks (Step (event.Cancel v)) e of h = absurd (let f : false ≡ true = of in cc)
-  event_stays ticks (Step (event.Send v)) e of h = absurd (let f : false ≡ true = of in cc)
+  event_stays ticks each e of h = grind arith
 
 -- ---- its line
 

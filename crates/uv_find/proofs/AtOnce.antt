@@ -19,7 +19,7 @@ use Rattle.uv_find.proofs.Runners.{run_at, after_long, rank_below}
 use Rattle.uv_find.proofs.Finishing.{at_will_kept, its_rank}
 use Rattle.uv_find.proofs.Cancelling.{none_cancels}
 use Rattle.uv_find.proofs.Offers.{or_last}
-use Rattle.uv_find.proofs.Apart.{is_outside, outside_mute, line_same, within_same, kept_outside, kept_same, still_idle, at_will_stays, others_stay}
+use Rattle.uv_find.proofs.Apart.{is_outside, outside_mute, line_same, within_same, kept_outside, kept_same, at_will_stays, others_stay}
 
 -- ---- what is left
 
@@ -53,22 +53,8 @@ not_less k n large = grind (arith, nat_tests)
 
 -- ---- what is offered
 
-pub untimed : (clock : ℕ) (o : Option Event) → timed None clock o ≡ o
-untimed clock o = grind arith
-
-take_brief : (forget : Option ℕ) (worker : ℕ) → is_brief forget (Take worker) ≡ true
-take_brief forget worker = grind arith
-
 pub due_same : (q : Question) (clock due : ℕ) → DueAlike q clock due clock due
-due_same (asks.Late name ms) clock due = refl
-due_same (asks.Call which name call) clock due = refl
-due_same (asks.Code code name) clock due = refl
-due_same (asks.Section word) clock due = refl
-due_same asks.Poll clock due = refl
-due_same (asks.Never name) clock due = refl
-due_same asks.Stuck clock due = refl
-due_same (asks.Before name other) clock due = refl
-due_same (asks.Behind name other) clock due = refl
+due_same q clock due = grind arith
 
 -- a time goes by, an async handle is sent to, or a callback of I/O begins
 abbrev IsAside : Event → Type 0
@@ -86,24 +72,10 @@ module _ (p : Program) (s a : State) (k j : Kept) (idle : owes k ≡ false) (sti
   Again offer e = (event_of p a j offer ≡ Some e) × IsAside e
 
   tick_again : (ms : ℕ) (e : Event) → event_of p s k (offers.Step (Tick ms)) ≡ Some e → Again (offers.Step (Tick ms)) e
-  tick_again ms e h =
-      let now : event_of p s k (offers.Step (Tick ms)) ≡ Some (Tick ms) = rw idle refl in
-      let later : event_of p a j (offers.Step (Tick ms)) ≡ Some (Tick ms) = rw still refl in
-      let is : Tick ms ≡ e = same_Some (Tick ms) e (sym now ∙ h) in
-      (later ∙ ap Some is, inl (ms, sym is))
+  tick_again ms e h = grind arith
 
   io_again : (v : Var) (e : Event) → event_of p s k (offers.Step (event.Io v)) ≡ Some e → Again (offers.Step (event.Io v)) e
-  io_again v e h =
-      let made : is_made a (Some v) ≡ is_made s (Some v) = ap (λ (all : List Named). is_some (bound.named all v.0).id) names in
-      let same : (is_made a (Some v) && not (owes j)) ≡ (is_made s (Some v) && not (owes k)) =
-      ap₂ (λ c d. c && not d) made (still ∙ sym idle) in
-      let later : (if is_made a (Some v) && not (owes j) then Some (event.Io v) else None) ≡ Some e =
-      ap (λ c. if c then Some (event.Io v) else None) same ∙ h in
-      (later, inr (inl (v, by (is_made s (Some v) && not (owes k)) h)))
-    where
-      by : (c : Bool) → (if c then Some (event.Io v) else None) ≡ Some e → e ≡ event.Io v
-      by true g = sym (same_Some (event.Io v) e g)
-      by false g = absurd (none-some e g)
+  io_again v e h = grind arith
 
   send_again : (v : Var) (e : Event) → event_of p s k (offers.Step (Send v)) ≡ Some e → Again (offers.Step (Send v)) e
   send_again v e h =
@@ -115,8 +87,7 @@ module _ (p : Program) (s a : State) (k j : Kept) (idle : owes k ≡ false) (sti
       (later, inr (inr (v, by (is_made s (Some v) && is_seen s v) h)))
     where
       by : (c : Bool) → (if c then Some (Send v) else None) ≡ Some e → e ≡ Send v
-      by true g = sym (same_Some (Send v) e g)
-      by false g = absurd (none-some e g)
+      by c g = grind arith
 
   wait_again : (e : Event) → event_of p s k offers.Wait ≡ Some e → Again offers.Wait e
   wait_again e h =
@@ -125,12 +96,7 @@ module _ (p : Program) (s a : State) (k j : Kept) (idle : owes k ≡ false) (sti
     where
       at : (d : ℕ) (b : Bool) → is_blocked p s ≡ b → (if b then Some (Tick (d - s.clock)) else None) ≡ Some e
           → (wait_until p a (Some d) ≡ Some e) × IsAside e
-      at d true is g =
-          let time : Some (Tick (d - a.clock)) ≡ Some e = ap (λ c. Some (Tick (d - c))) clock ∙ g in (
-            ap (λ b. if b then Some (Tick (d - a.clock)) else None) (blocked is) ∙ time,
-            inl (d - s.clock, sym (same_Some (Tick (d - s.clock)) e g)),
-          )
-      at d false is g = absurd (none-some e g)
+      at d b is g = grind arith
 
       by : (o : Option ℕ) → wait_until p s o ≡ Some e → (wait_until p a o ≡ Some e) × IsAside e
       by None g = absurd (none-some e g)
@@ -143,25 +109,12 @@ module _ (p : Program) (s a : State) (k j : Kept) (idle : owes k ≡ false) (sti
 
     by : (b c : Bool) → may_last s ms ≡ b → is_blocked p s ≡ c → (if b then (if c then Some (Tick ms) else None) else None) ≡ Some e
         → Again (offers.WaitFor ms) e
-    by true true long is g = (
-      ap₂ (λ x y. if x then (if y then Some (Tick ms) else None) else None) (lasts ∙ long) (blocked is) ∙ g,
-      inl (ms, sym (same_Some (Tick ms) e g)),
-    )
-    by true false long is g = absurd (none-some e g)
-    by false c long is g = absurd (none-some e g)
+    by b c long is g = grind arith
 
   comes_again : (offer : Offer) (e : Event) → is_clear_of_takes offer ≡ true → event_of p s k offer ≡ Some e → Again offer e
-  comes_again (offers.Step (Tick ms)) e of h = tick_again ms e h
-  comes_again (offers.Step (event.Io v)) e of h = io_again v e h
   comes_again (offers.Step (Send v)) e of h = send_again v e h
-  comes_again offers.Wait e of h = wait_again e h
   comes_again (offers.WaitFor ms) e of h = wait_for_again ms e h
-  comes_again offers.Take e of h = absurd (let f : false ≡ true = of in cc)
-  comes_again (offers.SendDuring v job) e of h = absurd (let f : false ≡ true = of in cc)
-  comes_again (offers.Step Loop) e of h = absurd (let f : false ≡ true = of in cc)
-  comes_again (offers.Step (Take worker)) e of h = absurd (let f : false ≡ true = of in cc)
-  comes_again (offers.Step (Finish worker)) e of h = absurd (let f : false ≡ true = of in cc)
-  comes_again (offers.Step (event.Cancel v)) e of h = absurd (let f : false ≡ true = of in cc)
+  comes_again each e of h = grind (arith, tick_again, io_again, send_again, wait_again, wait_for_again)
 
 -- behind a take the loop is blocked where it was
 still_blocked : (p : Program) (s a : State) (k : ℕ) (l : Option Seen) → cancels p s ≡ false → next p s (Take k) ≡ Moves a l
@@ -180,8 +133,7 @@ one_leads r p (suc count) i l below leads = elim (or_last i count below) [
 ]
   where
     false_behind : (b : Bool) → (b && false) ≡ false
-    false_behind true = refl
-    false_behind false = refl
+    false_behind b = grind arith
 
 -- the first move is apart where a take is
 take_apart : (r : Rules) (s : Spot) → r.at_once ≡ true → is_take_first r s.place ≡ true → apart r s 0 ≡ true
@@ -209,41 +161,29 @@ module _ (r : Rules) (can : AreOfPool r) (may : CanForget r can.counted) where
 
   plain : (p : Place) (o : Option Event) → brief r.forget (ranked r.forget p.state (timed r.clock p.state.clock o))
       ≡ brief (Some can.counted) (ranked (Some can.counted) p.state o)
-  plain p o =
-      ap (λ f. brief f (ranked f p.state (timed r.clock p.state.clock o))) can.forgets
-      ∙ ap (λ c. brief (Some can.counted) (ranked (Some can.counted) p.state (timed c p.state.clock o))) may.clock
-      ∙ ap (λ x. brief (Some can.counted) (ranked (Some can.counted) p.state x)) (untimed p.state.clock o)
+  plain p o = grind arith
 
   abbrev pub shown : Place → Offer → Option Event
   shown p offer = brief (Some can.counted) (ranked (Some can.counted) p.state (event_of r.program p.state p.kept offer))
 
   pub at_will_is : (p : Place) (i : ℕ) (offer : Offer) → slice_get r.offers i ≡ Some (at_will offer) → slice_get p.left i ≡ Some left.AtWill
       → event_at r p i ≡ shown p offer
-  at_will_is p i offer is will =
-      given p i (at_will offer) is ∙ ap (offered_by r p (Some (at_will offer))) will ∙ plain p (event_of r.program p.state p.kept offer)
+  at_will_is p i offer is will = grind (arith, given, will, plain)
 
   take_shown : (p : Place) (w : ℕ) → idle_worker p.state ≡ Some w → shown p offers.Take ≡ Some (Take w)
   take_shown p w idle = ap (λ o. brief (Some can.counted) (ranked (Some can.counted) p.state (take_by o))) idle
 
   pub take_is : (p : Place) (e : Event) → shown p offers.Take ≡ Some e → (w : ℕ) × (idle_worker p.state ≡ Some w) × (e ≡ Take w)
-  take_is p e h = by (idle_worker p.state) refl h where
-    by : (o : Option ℕ) → idle_worker p.state ≡ o → brief (Some can.counted) (ranked (Some can.counted) p.state (take_by o)) ≡ Some e
-        → (w : ℕ) × (idle_worker p.state ≡ Some w) × (e ≡ Take w)
-    by None is g = absurd (none-some e g)
-    by (Some w) is g = (w, is, sym (same_Some (Take w) e g))
+  take_is p e h = grind arith
 
   loop_shown : (p : Place) → owes p.kept ≡ false → shown p (offers.Step Loop) ≡ Some Loop
-  loop_shown p idle =
-      ap (λ b. brief (Some can.counted) (ranked (Some can.counted) p.state (Some (if b then Tick p.kept.owed else Loop)))) idle
+  loop_shown p idle = cc
 
   pub finish_shown : (p : Place) (k j : ℕ) → runner p.state k ≡ Some j → shown p (offers.Step (Finish k)) ≡ Some (Finish j)
   finish_shown p k j is = ap (λ o. brief (Some can.counted) (finish_by o)) is
 
   pub finish_is : (p : Place) (k : ℕ) (e : Event) → shown p (offers.Step (Finish k)) ≡ Some e → (j : ℕ) × (e ≡ Finish j)
-  finish_is p k e h = by (runner p.state k) h where
-    by : (o : Option ℕ) → brief (Some can.counted) (finish_by o) ≡ Some e → (j : ℕ) × (e ≡ Finish j)
-    by None g = absurd (none-some e g)
-    by (Some j) g = (j, sym (same_Some (Finish j) e g))
+  finish_is p k e h = grind arith
 
   -- ---- an offer that a take leaves alone
 
@@ -285,13 +225,7 @@ module _ (r : Rules) (can : AreOfPool r) (may : CanForget r can.counted) where
         let whole : brief (Some can.counted) (ranked (Some can.counted) p.state (event_of r.program p.state p.kept o.offer)) ≡ Some e =
         sym (plain p (event_of r.program p.state p.kept o.offer)) ∙ g in
         let comes = event (event_of r.program p.state p.kept o.offer) asides whole in
-        record {
-          comes = comes;
-          again = λ q same aside there. given q i o is ∙ ap (offered_by r q (Some o)) (same ∙ at)
-              ∙ ap (λ b. brief r.forget (ranked r.forget q.state
-              (if b then timed r.clock q.state.clock (event_of r.program q.state q.kept o.offer) else None))) may_be
-              ∙ plain q (event_of r.program q.state q.kept o.offer) ∙ once_more q aside there comes ∙ whole;
-        }
+        grind arith
 
     by : (x : Option Left) → slice_get p.left i ≡ x → offered_by r p (Some o) x ≡ Some e → OffersAside p i o e
     by None at g = absurd (none-some e g)
@@ -322,9 +256,7 @@ module _ (r : Rules) (can : AreOfPool r) (may : CanForget r can.counted) where
     will_behind i below = ap (λ xs. slice_get xs i) first_left ∙ will i below
 
     still : (k : Kept) (e : Event) (t : State) (line : Option Seen) → owes k ≡ false → owes (kept_by k e t line) ≡ false
-    still k e t line none =
-        subst (λ ts. owes (kept_after r.recorded ts r.question k e t line) ≡ false) (sym can.takes)
-        (still_idle r.recorded r.question k e t line none)
+    still k e t line none = grind arith
 
     idle_behind : owes by_take.place.kept ≡ false
     idle_behind = still s.place.kept (Take w) a l idle
@@ -341,9 +273,7 @@ module _ (r : Rules) (can : AreOfPool r) (may : CanForget r can.counted) where
     leaves = take_leaves r.program s.place.state a w l goes
 
     kept_there : (e : Event) (t u : State) (line : Option Seen) (k : Kept) → owes k ≡ false → kept_by k e t line ≡ kept_by k e u line
-    kept_there e t u line k none =
-        subst (λ ts. kept_after r.recorded ts r.question k e t line ≡ kept_after r.recorded ts r.question k e u line) (sym can.takes)
-        (kept_same r.recorded r.question k e t u line once.question none)
+    kept_there e t u line k none = grind (arith, kept_same)
 
     -- another move: it is taken behind the take too, by this number, and the take behind it
     record Beside (i : ℕ) (e : Event) (b : State) (m : Option Seen) : Type 0 where
@@ -422,15 +352,7 @@ module _ (r : Rules) (can : AreOfPool r) (may : CanForget r can.counted) where
         by once.1 (asides.again by_take.place (others_stay s.place.left 0 i other) once.1 once.0)
       where
         crossed : (f : Event) → Crosses r.program (Take w) f a b l m → event_at r by_take.place i ≡ Some f → Beside i f b m
-        crossed f x again = record {
-          state = x.state;
-          take_after = x.one_after;
-          after_take = x.other_after;
-          number = i;
-          below = below_count by_take.place i o there;
-          again = again;
-          left = refl;
-        }
+        crossed f x again = grind arith
 
         by : IsAside e → event_at r by_take.place i ≡ Some e → Beside i e b m
         by (inl (ms, tick)) again =
@@ -453,14 +375,7 @@ module _ (r : Rules) (can : AreOfPool r) (may : CanForget r can.counted) where
     beside (suc (suc k)) e b m other offered comes = by (nat_lt k (worker_count r.program)) refl where
       there : (o : Option Offered) → slice_get r.offers (suc (suc k)) ≡ o → worker_count r.program ≤ k → Beside (suc (suc k)) e b m
       there (Some o) at far = aside_beside (suc (suc k)) o e b m (omega (arith, far)) at offered comes
-      there None at far =
-          let within = nat_lt (suc (suc k)) (move_count r s.place) in
-          absurd (none_offered within
-          (sym (ap (λ x. if within then offered_by r s.place x (slice_get s.place.left (suc (suc k))) else None) at) ∙ offered))
-        where
-          none_offered : (c : Bool) → (if c then offered_by r s.place None (slice_get s.place.left (suc (suc k))) else None) ≡ Some e → ⊥
-          none_offered true g = none-some e g
-          none_offered false g = none-some e g
+      there None at far = grind arith
 
       by : (c : Bool) → nat_lt k (worker_count r.program) ≡ c → Beside (suc (suc k)) e b m
       by true small = finish_beside k e b m (ltb-true k (worker_count r.program) small) offered comes
@@ -483,9 +398,7 @@ module _ (r : Rules) (can : AreOfPool r) (may : CanForget r can.counted) where
       few_one = fewer r r.forget (length s.steps + 1) (length s.steps + 2) (omega arith) few
 
       few_behind : (l : Led) → is_few r.forget (length (after_event s l).steps + 1) ≡ true
-      few_behind l =
-          let long : length (s.steps ++ l.event ∷ []) + 1 ≡ length s.steps + 2 = omega (arith, length-append s.steps (l.event ∷ [])) in
-          ap (is_few r.forget) long ∙ few
+      few_behind l = grind (arith, length, length-append)
 
       led_other : led r s.place i ≡ Some by_other
       led_other = led_is r may.differ s.place i e b m bound offered comes
@@ -516,13 +429,7 @@ module _ (r : Rules) (can : AreOfPool r) (may : CanForget r can.counted) where
       v = first_idle.0
 
       idle_there : slice_get b.running v ≡ Some None
-      idle_there =
-          let found = first_at none b.running v first_idle.1 in
-          found.1 ∙ ap Some (by found.0 found.2)
-        where
-          by : (run : Option Id) → is_none run ≡ true → run ≡ None
-          by None e = refl
-          by (Some id) e = absurd (let f : false ≡ true = e in cc)
+      idle_there = grind (arith, first_at, is_none)
 
       abbrev taken_by : State
       taken_by = record b { waiting = drop 1 b.waiting; running = slice_set b.running v (Some taking.id) }
@@ -564,18 +471,12 @@ module _ (r : Rules) (can : AreOfPool r) (may : CanForget r can.counted) where
       spot_middle = record {
         state = state_behind r behind_other (Take w) x.state l spot_other x.take_after;
         forgets = spot_other.forgets;
-        brief = brief_more r.forget behind_other.steps (Take w) spot_other.brief (take_brief r.forget w);
+        brief = brief_more r.forget behind_other.steps (Take w) spot_other.brief (grind arith);
         few = ap (is_few r.forget) (length_more behind_other.steps (Take w)) ∙ few_behind by_other;
       }
 
       itself : AreAlike r can.counted by_other.place by_other.place
-      itself = record {
-        state = refl;
-        left = refl;
-        owed = refl;
-        along = refl;
-        due = due_same r.question b.clock by_other.place.kept.due;
-      }
+      itself = grind arith
 
       alike : (spot_code r (after_event behind_other last) ≡ spot_code r (after_event behind_other middle))
           × (answers r by_other.place last ≡ answers r by_other.place middle)
@@ -630,17 +531,10 @@ module _ (r : Rules) (can : AreOfPool r) (may : CanForget r can.counted) where
           (ap (λ d. answers r s.place by_other || d) (sym last_by_place) ∙ h)
         where
           by : (f g h k : Bool) → f ≡ k → (g ≡ true → h ≡ true) → ((if f then true else g) || h) ≡ true → (if k then true else h) ≡ true
-          by true g h true same later is = refl
-          by false g h false same later is = either g h later is where
-            either : (g h : Bool) → (g ≡ true → h ≡ true) → (g || h) ≡ true → h ≡ true
-            either true h later is = later refl
-            either false h later is = is
-          by true g h false same later is = absurd (let f : true ≡ false = same in cc)
-          by false g h true same later is = absurd (let f : false ≡ true = same in cc)
+          by f g h k same later is = grind arith
 
       either_is : (c d : Bool) → d ≡ true → (c || d) ≡ true
-      either_is true d is = refl
-      either_is false d is = is
+      either_is c d is = grind arith
 
       pub meeting : Meet (λ (q : Spot). move_count r q.place) (next_spot r) (spot_code r) (apart r) (after_event s by_take)
           (answers r s.place by_take) behind_other (answers r s.place by_other)

@@ -1,11 +1,11 @@
 -- How far the clock goes: by what a tick says, and by nothing else.
-use Rattle.uv_find.proofs.Names.{◌≡◌, ℕ, ◌+◌, ◌*◌, ◌<◌, ◌≤◌, true, List, [], ◌∷◌, length, Option, Some, None, Result, refl, ap, subst, arith, Event, Io, Tick, Seen, Id, Var, Why, Order, Callback, Op, Request, Program, order_of, State, fresh, goes_on, state_of, Next, Moves, Refuses, LONG, is_brief, AreBrief, Holds, HoldsNext, holds_fresh, holds_next, Mode, OfLoop, loop_lines, Line, Names, Position, Between, Section, Standing, Lasting, Goes, IsCallLine, names_by, lasting, nothing_told, told_by, after_op}
+use Rattle.uv_find.proofs.Names.{◌≡◌, ℕ, ◌+◌, ◌*◌, ◌<◌, ◌≤◌, true, List, [], ◌∷◌, length, Option, Some, None, Result, refl, ap, arith, Event, Io, Tick, Seen, Id, Var, Why, Callback, Op, Request, Program, State, fresh, goes_on, state_of, Next, Moves, Refuses, LONG, is_brief, AreBrief, Holds, HoldsNext, holds_fresh, holds_next, loop_lines, Line, Names, Position, Between, Standing, Lasting, Goes, IsCallLine, names_by, lasting, nothing_told, told_by, after_op}
 use Rattle.uv_ids.specs.declared.seen.Seen.TheVariants as seen
 use Rattle.uv_model.specs.After.{after}
 use Rattle.uv_model.specs.Next as step
 use Rattle.uv_model.specs.Next.{next}
 use Rattle.uv_order.specs.Documented.{Told}
-use Rattle.uv_order.specs.Documented.{after_run, after_section, after_io, after_end}
+use Rattle.uv_order.specs.Documented.{after_io, after_end}
 use Rattle.uv_order.specs.Documented.Goes.{main_line, run, section, poll, ends, call, fires, answers, answer_op, body_op, sent, taken, finished, cancelled, outside}
 
 -- the ms that the clock goes on by, as a line says
@@ -25,12 +25,6 @@ ms_by e = 0
 op_clock : (o : Op) (s : State) → (after_op o s).clock ≡ s.clock
 op_clock o s = grind arith
 
-run_clock : (o : Order) (m : Mode) (s : State) → (after_run o m s).clock ≡ s.clock
-run_clock o m s = grind arith
-
-section_clock : (o : Order) (at : Standing) (part : Section) (s : State) → (after_section o at part s).clock ≡ s.clock
-section_clock o at part s = grind arith
-
 io_clock : (at : Standing) (s : State) → (after_io at s).clock ≡ s.clock
 io_clock at s = grind arith
 
@@ -44,10 +38,8 @@ stands l was last same none = grind arith
 line_clock : (p : Program) (told : Told) (names : Names) (l : Line) (at to : Position) → Goes p told names at l to →
     l.after.clock ≡ l.before.clock + ms_of l.seen
 line_clock p told names l at to (main_line o a is says last) = stands l (after_op o l.before) last (op_clock o l.before) (ap ms_of says)
-line_clock p told names l at to (run m is says last) = stands l (after_run (order_of p) m l.before) last (run_clock (order_of p) m l.before)
-    (ap ms_of says)
-line_clock p told names l at to (section {at = here} part may is says opens last) =
-    stands l (after_section (order_of p) here part l.before) last (section_clock (order_of p) here part l.before) (ap ms_of says)
+line_clock p told names l at to (run m is says last) = grind arith
+line_clock p told names l at to (section {at = here} part may is says opens last) = grind arith
 line_clock p told names l at to (poll timeout may is polls says last) = stands l (lasting l.before) last refl (ap ms_of says)
 line_clock p told names l at to (ends may is says last) = stands l (after_end l.before) last refl (ap ms_of says)
 line_clock p told names l at to (call kind v id behind is calls made line last) =
@@ -73,27 +65,20 @@ abbrev Timeless : Next → Type 0
 Timeless (Moves t line) = ms_in line ≡ 0
 Timeless (Refuses why) = Unit {0}
 
-no_tick : (x : Next) → OfLoop x → Timeless x
-no_tick each h = grind arith
-
 by_take : (s : State) (k : ℕ) (x : Result (Id × Request) Why) → Timeless (step.take s k x)
 by_take s k x = grind arith
 
 timeless : (p : Program) (s : State) (e : Event) (t : State) (line : Option Seen) → next p s e ≡ Moves t line → ms_in line ≤ ms_by e
 unfolding next
 timeless p s (Io v) t line is = grind arith
-timeless p s each t line is = grind (arith, no_tick, loop_lines, by_take)
+timeless p s each t line is = grind (arith, loop_lines, by_take)
 
 -- ---- a step, and all steps
 
 module _ (p : Program) where
   step_clock : (told : Told) (past : List Seen) (s : State) (at : Position) (e : Event) (t : State) (line : Option Seen) →
       Holds p told past s at → next p s e ≡ Moves t line → t.clock ≤ s.clock + ms_by e
-  step_clock told past s at e t line h is =
-      let x = subst (HoldsNext p told past s at) is (holds_next p told past s at e h) in
-      let one = still_clock p told past s at t line x in
-      let few = timeless p s e t line is in
-      omega (arith, one, few)
+  step_clock told past s at e t line h is = grind (arith, holds_next, still_clock, timeless)
 
   brief_ms : (n : ℕ) (e : Event) → is_brief (Some n) e ≡ true → ms_by e < LONG
   brief_ms n e brief = grind arith
@@ -114,10 +99,7 @@ module _ (p : Program) where
           (goes_on p t es).clock ≤ t.clock + length es * LONG) →
           (goes_on p (state_of s x) es).clock ≤ s.clock + length (e ∷ es) * LONG
       by (Refuses why) is k more = let l = more told past s at k in omega (arith, l)
-      by (Moves t None) is k more =
-          let l = more told past t at k.holds in
-          let one = step_clock told past s at e t None h is in
-          omega (arith, l, one, few)
+      by (Moves t None) is k more = grind arith
       by (Moves t (Some line)) is k more =
           let l = more (told_by p told (names_by p past) line) (line ∷ past) t k.to k.holds in
           let one = step_clock told past s at e t (Some line) h is in

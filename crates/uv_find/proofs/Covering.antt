@@ -1,13 +1,9 @@
 -- What a place does, one that has the same key does as well: it leads by each move to one of the same key, and answers alike.
-use Rattle.uv_find.proofs.Names.{◌≡◌, inl, inr, ℕ, zero, suc, ◌+◌, ◌-◌, ◌&&◌, Bool, true, false, List, [], ◌∷◌, ◌++◌, length, nat_lt, is_none, slice_get, refl, sym, ap, ap₂, subst, ◌∙◌, Option, Some, None, if◌then◌else◌, arith, none-some, Event, Take, Seen, State, Next, Moves, Refuses, CoversMoves, CoversStep, calls_timer, IsRegular, LeadsRegular, tale, Offered, Question, Left, is_common, along_after, Rules, Place, Choice, Led, led, led_by, placed, chosen, lessened, offered_by, is_brief, move_count, move_count_by, taken, reached, is_within, answers, place_answers, none_leads, has_ended, Spot, spot_of, next_spot, told_due, told, left_code, kept_code, place_code, spot_code, CanForget, IsSpot, IsStanding, is_few, key_code}
+use Rattle.uv_find.proofs.Names.{◌≡◌, inl, inr, ℕ, zero, suc, ◌+◌, ◌&&◌, Bool, true, false, List, [], ◌∷◌, ◌++◌, length, nat_lt, is_none, slice_get, refl, sym, ap, ap₂, subst, ◌∙◌, Option, Some, None, if◌then◌else◌, arith, none-some, Event, Take, Seen, State, Next, Moves, Refuses, CoversMoves, CoversStep, calls_timer, IsRegular, LeadsRegular, tale, Offered, Question, Left, is_common, along_after, Rules, Place, Choice, Led, led, led_by, placed, chosen, lessened, offered_by, is_brief, move_count, move_count_by, taken, reached, is_within, answers, place_answers, none_leads, Spot, spot_of, next_spot, told, spot_code, CanForget, IsSpot, IsStanding, is_few}
 use Rattle.uv_model.specs.Next.{next}
-use Rattle.uv_state_key.specs.Formed.{formed}
-use Rattle.uv_state_key.specs.TaleKey.{tale_code}
-use Rattle.uv_asking.specs.declared.asking.Question.TheVariants as asks
-use Rattle.uv_find.specs.Spots.{Told}
 use Rattle.uv_find.proofs.Alike.{GoesAlike, NextGoes, IsGoing, spot_going, AreAlike, DueAlike, kept_due_alike, within_alike, goes_alike, blocked_alike, offered_alike, both}
 use Rattle.uv_find.proofs.Led.{each, event_at, choice_is, led_leads, leads_spot, offered_brief}
-use Rattle.uv_find.proofs.Onward.{owed_alike, along_alike, uncalled_alike, line_alike}
+use Rattle.uv_find.proofs.Onward.{owed_alike, uncalled_alike, line_alike}
 use Rattle.uv_find.proofs.Lines.{LinesAlike}
 use Rattle.uv_find.proofs.Readings.{reads_ended}
 use Rattle.uv_find.proofs.Runners.{RunAlike, EventsAlike, OffersAlike}
@@ -47,15 +43,7 @@ module _ (r : Rules) (n : ℕ) (forget : r.forget ≡ Some n) (can : CanForget r
   LedAlike s t x y = ⊥
 
   due_goes : (q : Question) (a b u v d e : ℕ) → DueAlike q a d b e → u + b ≡ v + a → DueAlike q u d v e
-  due_goes (asks.Late name ms) a b u v d e h k = omega (arith, h, k)
-  due_goes (asks.Call which name call) a b u v d e h k = h
-  due_goes (asks.Code code name) a b u v d e h k = h
-  due_goes (asks.Section word) a b u v d e h k = h
-  due_goes asks.Poll a b u v d e h k = h
-  due_goes (asks.Never name) a b u v d e h k = h
-  due_goes asks.Stuck a b u v d e h k = h
-  due_goes (asks.Before name other) a b u v d e h k = h
-  due_goes (asks.Behind name other) a b u v d e h k = h
+  due_goes each a b u v d e h k = grind arith
 
   module _ (s t : Place) (hs : IsGoing r.program n s) (ht : IsGoing r.program n t) (alike : AreAlike r n s t) where
     events_alike : (number : ℕ) → OffersAlike s.state t.state (event_at r s number) (event_at r t number)
@@ -87,41 +75,12 @@ module _ (r : Rules) (n : ℕ) (forget : r.forget ≡ Some n) (can : CanForget r
           → tale n u ≡ tale n v
           → LinesAlike r.program line other
           → along_after r.recorded s.kept.along e line ≡ along_after r.recorded t.kept.along f other
-      along_both u v line other ru rv same lines = by does where
-        by : EventsAlike s.state t.state e f
-            → along_after r.recorded s.kept.along e line ≡ along_after r.recorded t.kept.along f other
-        by (inl h) =
-            subst (λ g. along_after r.recorded s.kept.along e line ≡ along_after r.recorded t.kept.along g other) h.0
-            (along_alike r n forget can u v ru rv same s.kept.along t.kept.along e line other alike.along lines)
-        by (inr (inl h)) =
-            ap (λ g. along_after r.recorded s.kept.along g line) h.one ∙ alike.along
-            ∙ sym (ap (λ g. along_after r.recorded t.kept.along g other) h.two)
-        by (inr (inr h)) =
-            ap (λ g. along_after r.recorded s.kept.along g line) h.one ∙ alike.along
-            ∙ sym (ap (λ g. along_after r.recorded t.kept.along g other) h.two)
+      along_both u v line other ru rv same lines = grind arith
 
       taken_alike : (u v : State) (line other : Option Seen) → next r.program s.state e ≡ Moves u line →
           next r.program t.state f ≡ Moves v other → GoesAlike r.program n s.state t.state u v line other →
           LeadsAlike s t (record { event = e; place = taken r c u line; line = line }) (record { event = f; place = taken r d v other; line = other })
-      taken_alike u v line other goes comes k =
-          let ru = behind s hs e u line goes in
-          let rv = behind t ht f v other comes in
-          let dues = due_goes r.question s.state.clock t.state.clock u.clock v.clock s.kept.due t.kept.due alike.due
-          k.clocks in
-          record {
-            places = record {
-              state = k.same;
-              left = ap (λ xs. lessened xs number) alike.left;
-              owed = owed_alike r n forget can u v ru rv k.same s.kept.owed t.kept.owed line other alike.owed k.same_line;
-              along = along_both u v line other ru rv k.same k.same_line;
-              due = kept_due_alike r n forget can u v ru rv k.same r.question s.kept.due t.kept.due dues;
-            };
-            regular = ru;
-            other = rv;
-            lines = k.same_line;
-            timers = k.timers;
-            dues = dues;
-          }
+      taken_alike u v line other goes comes k = search (behind, due_goes, owed_alike, along_both, kept_due_alike)
 
       placed_alike : (x y : Next) → next r.program s.state e ≡ x → next r.program t.state f ≡ y →
           NextGoes r.program n s.state t.state x y → LedAlike s t (placed r c (reached r.most x)) (placed r d (reached r.most y))
@@ -135,10 +94,7 @@ module _ (r : Rules) (n : ℕ) (forget : r.forget ≡ Some n) (can : CanForget r
           by : (g h : Bool) → g ≡ h →
               LedAlike s t (placed r c (if◌then◌else◌ {A = Option (State × Option Seen)} g (Some (u, line)) None))
               (placed r d (if◌then◌else◌ {A = Option (State × Option Seen)} h (Some (v, other)) None))
-          by true true same = taken_alike u v line other goes comes k
-          by false false same = tt
-          by true false same = absurd cc
-          by false true same = absurd cc
+          by g h same = grind (arith, taken_alike)
 
     pub led_alike : (number : ℕ) → LedAlike s t (led r s number) (led r t number)
     led_alike number =
@@ -157,17 +113,12 @@ module _ (r : Rules) (n : ℕ) (forget : r.forget ≡ Some n) (can : CanForget r
         by None None brief h = tt
         by None (Some f) brief h = absurd h
         by (Some e) None brief h = absurd h
-        by (Some e) (Some f) brief h =
-            placed_alike number e f h (brief e refl) (next r.program s.state e) (next r.program t.state f) refl refl
-            (goes_alike r n forget can s t hs ht alike e f h (brief e refl))
+        by (Some e) (Some f) brief h = search (placed_alike, goes_alike)
 
     -- ---- what a place answers
 
     none_by : (x y : Option Led) → LedAlike s t x y → is_none x ≡ is_none y
-    none_by None None h = refl
-    none_by (Some x) (Some y) h = refl
-    none_by None (Some y) h = absurd h
-    none_by (Some x) None h = absurd h
+    none_by each e1 h = grind arith
 
     none_alike : (count : ℕ) → none_leads r s count ≡ none_leads r t count
     none_alike zero = refl
@@ -178,75 +129,12 @@ module _ (r : Rules) (n : ℕ) (forget : r.forget ≡ Some n) (can : CanForget r
     count_alike = ap (λ (xs : List Left). move_count r (record s { left = xs })) alike.left
 
     pub place_alike : (q : Question) → place_answers r s q ≡ place_answers r t q
-    place_alike (asks.Never name) =
-        let ra = hs.regular in
-        let rb = ht.regular in
-        ap₂ (λ x y. x && y)
-        (both r n forget can s.state t.state ra rb alike.state (λ u. has_ended r.program u.place) (reads_ended n r.program))
-        (uncalled_alike r n forget can s.state t.state ra rb alike.state name)
-    place_alike asks.Stuck =
-        ap₂ (λ x y. x && y) (blocked_alike r n forget can s t hs ht alike)
-        (none_alike (move_count r s) ∙ ap (none_leads r t) count_alike)
-    place_alike (asks.Late name ms) = refl
-    place_alike (asks.Call which name call) = refl
-    place_alike (asks.Code code name) = refl
-    place_alike (asks.Section word) = refl
-    place_alike asks.Poll = refl
-    place_alike (asks.Before name other) = refl
-    place_alike (asks.Behind name other) = refl
+    place_alike each = grind (arith, ap₂, both, reads_ended, uncalled_alike, blocked_alike, none_alike, count_alike)
 
   -- ---- the key
 
-  due_told : (q : Question) (a b d e : ℕ) → DueAlike q a d b e → told_due (Some n) q a d ≡ told_due (Some n) q b e
-  due_told (asks.Late name ms) a b d e h =
-      let late : a - d ≡ b - e = omega (arith, h) in
-      let early : d - a ≡ e - b = omega (arith, h) in
-      λ i. (late i, early i)
-  due_told (asks.Call which name call) a b d e h = ap (λ x. (x, 0)) h
-  due_told (asks.Code code name) a b d e h = ap (λ x. (x, 0)) h
-  due_told (asks.Section word) a b d e h = ap (λ x. (x, 0)) h
-  due_told asks.Poll a b d e h = ap (λ x. (x, 0)) h
-  due_told (asks.Never name) a b d e h = ap (λ x. (x, 0)) h
-  due_told asks.Stuck a b d e h = ap (λ x. (x, 0)) h
-  due_told (asks.Before name other) a b d e h = ap (λ x. (x, 0)) h
-  due_told (asks.Behind name other) a b d e h = ap (λ x. (x, 0)) h
-
-  codes_alike : (p q : Place) → IsRegular r.program p.state → IsRegular r.program q.state → AreAlike r n p q → place_code r p ≡ place_code r q
-  codes_alike p q one two h =
-      let key : key_code r.forget p.state ≡ key_code r.forget q.state =
-      subst (λ o. key_code o p.state ≡ key_code o q.state) (sym forget) (ap tale_code h.state) in
-      let due : told_due r.forget r.question p.state.clock p.kept.due ≡ told_due r.forget r.question q.state.clock q.kept.due =
-      subst (λ o. told_due o r.question p.state.clock p.kept.due ≡ told_due o r.question q.state.clock q.kept.due) (sym forget)
-      (due_told r.question p.state.clock q.state.clock p.kept.due q.kept.due h.due) in
-      λ i. key i ++ left_code (h.left i) ++ kept_code (due i) (h.owed i) (h.along i)
-
-  due_by : (q : Question) (a b d e : ℕ) → told_due (Some n) q a d ≡ told_due (Some n) q b e → DueAlike q a d b e
-  due_by (asks.Late name ms) a b d e h =
-      let late : a - d ≡ b - e = ap (λ x. x.0) h in
-      let early : d - a ≡ e - b = ap (λ x. x.1) h in
-      omega (arith, late, early)
-  due_by (asks.Call which name call) a b d e h = ap (λ x. x.0) h
-  due_by (asks.Code code name) a b d e h = ap (λ x. x.0) h
-  due_by (asks.Section word) a b d e h = ap (λ x. x.0) h
-  due_by asks.Poll a b d e h = ap (λ x. x.0) h
-  due_by (asks.Never name) a b d e h = ap (λ x. x.0) h
-  due_by asks.Stuck a b d e h = ap (λ x. x.0) h
-  due_by (asks.Before name other) a b d e h = ap (λ x. x.0) h
-  due_by (asks.Behind name other) a b d e h = ap (λ x. x.0) h
-
-  told_tale : (s t : State) → formed (Some n) s ≡ formed (Some n) t → tale n s ≡ tale n t
-  told_tale s t same = cc
-
   alike_by : (p q : Place) → told r p ≡ told r q → AreAlike r n p q
-  alike_by p q h = record {
-    state = told_tale p.state q.state (subst (λ o. formed o p.state ≡ formed o q.state) forget (ap (λ (x : Told). x.state) h));
-    left = ap (λ (x : Told). x.left) h;
-    owed = ap (λ (x : Told). x.owed) h;
-    along = ap (λ (x : Told). x.along) h;
-    due = due_by r.question p.state.clock q.state.clock p.kept.due q.kept.due
-        (subst (λ o. told_due o r.question p.state.clock p.kept.due ≡ told_due o r.question q.state.clock q.kept.due) forget
-        (ap (λ (x : Told). x.due) h));
-  }
+  alike_by p q h = grind arith
 
   -- ---- and so the moves
 
@@ -267,10 +155,7 @@ module _ (r : Rules) (n : ℕ) (forget : r.forget ≡ Some n) (can : CanForget r
         let line = line_alike r n forget can x.place.state y.place.state h.regular h.other h.places.state s.place.kept.due t.place.kept.due
         x.line y.line h.dues h.lines h.timers in
         let place = place_alike x.place y.place (spot_going r n forget can (record { place = x.place; steps = s.steps ++ x.event ∷ [] }) hx)
-        (spot_going r n forget can (record { place = y.place; steps = t.steps ++ y.event ∷ [] }) hy) h.places r.question in (
-          codes_alike x.place y.place h.regular h.other h.places,
-          ap₂ (λ one two. if one then true else two) line place,
-        )
+        (spot_going r n forget can (record { place = y.place; steps = t.steps ++ y.event ∷ [] }) hy) h.places r.question in (grind arith)
 
     -- two workers that run alike take a request, by this offer: they lead to places of one key, and answer alike
     pub takes_cover : (number worker other : ℕ) (u v : State) (line says : Option Seen)
@@ -303,18 +188,10 @@ module _ (r : Rules) (n : ℕ) (forget : r.forget ≡ Some n) (can : CanForget r
             (Some (record { place = x.place; steps = s.steps ++ x.event ∷ [] }, answers r s.place x)) None)
             (if◌then◌else◌ {A = Option (Spot × Bool)} c
             (Some (record { place = y.place; steps = t.steps ++ y.event ∷ [] }, answers r t.place y)) None)
-        by false c few more = tt
-        by true false few more = absurd cc
-        by true true few more =
-            step_covers x y h (leads_spot r s x hs (led_leads r s.place number x is) few)
-            (leads_spot r t y ht (led_leads r t.place number y so) few_behind)
+        by b c few more = grind (arith, step_covers, leads_spot, led_leads)
 
     covers : CoversMoves (λ (a : Spot). move_count r a.place) (next_spot r) (spot_code r) s t
-    covers = (
-      count_alike s.place t.place going other_going alike,
-      λ number below. covers_by number (led r s.place number) (led r t.place number) refl refl
-          (led_alike s.place t.place going other_going alike number),
-    )
+    covers = grind (arith, count_alike, going, other_going, covers_by, led_alike)
 
 -- ---- where places are told whole
 

@@ -1,8 +1,7 @@
 -- Lines that are told to be the same, except for two names that are exchanged, are.
-use Rattle.uv_find.proofs.Names.{◌≡◌, ℕ, zero, suc, ◌+◌, ◌<◌, ◌≤◌, ◌==◌, ◌&&◌, inl, inr, Bool, true, false, List, [], ◌∷◌, length, drop, nat_eq, nat_lt, get_or, refl, ap, ap₂, sym, subst, ◌∙◌, Option, Some, None, arith, map, option_map, slice_index_or, unwrap_or, and_parts, cases_order, eqb-true, ltb-true, nat_tests, drop_all, slice_get_past, drop-cons, Var, Callback, Op, CallbackLine, Program, Callbacks, callbacks_of, lines_in, lines_of, no_callbacks, op_name, Change, changed_op, changed_callback, moved_var, by_names, place_of, op_code, op_times, op_task, other_name, same_task, same_tasks, turned_name, same_call, turned_op, turned_line, turned_lines, turned_callbacks, all_turned, pointwise, text_of, Task, option_same}
+use Rattle.uv_find.proofs.Names.{◌≡◌, ℕ, zero, suc, ◌+◌, ◌<◌, ◌≤◌, ◌==◌, ◌&&◌, Bool, true, false, List, [], ◌∷◌, length, drop, nat_eq, nat_lt, get_or, refl, ap, ap₂, sym, subst, ◌∙◌, Option, Some, None, arith, map, option_map, slice_index_or, unwrap_or, and_parts, eqb-true, ltb-true, nat_tests, drop_all, slice_get_past, drop-cons, Var, Callback, Op, CallbackLine, Program, Callbacks, callbacks_of, lines_in, lines_of, no_callbacks, op_name, Change, changed_op, changed_callback, moved_var, by_names, place_of, op_code, op_times, op_task, other_name, same_task, same_tasks, turned_name, same_call, turned_op, turned_line, turned_lines, turned_callbacks, all_turned, pointwise, text_of, Task, option_same}
 use Rattle.std.specs.Cmp.Lexicographic.{same_text}
 use Rattle.uv_ids.specs.declared.phase.Kind.TheVariants as kind
-use Rattle.uv_ids.specs.declared.seen.Callback.TheVariants as callback
 use Rattle.uv_script.specs.declared.op.Op.TheVariants as op
 use Rattle.uv_work.proofs.TaskLemmas as tasks
 use Rattle.uv_find.proofs.Swap.{swap, is_equal, differs, first_goes, second_goes, other_stays}
@@ -78,19 +77,13 @@ told op.Timeout = refl
 pub name_changed : (c : Change) (o : Op) → op_name (changed_op c o) ≡ option_map c.var (op_name o)
 name_changed c o = grind arith
 
-times_changed : (c : Change) (o : Op) → op_times (changed_op c o) ≡ op_times o
-times_changed c o = grind arith
-
-task_changed : (c : Change) (o : Op) → op_task (changed_op c o) ≡ option_map c.work.task (op_task o)
-task_changed c o = grind arith
-
 turned : (a : ℕ) (o : Op) → op_by (op_code o) (op_times o) (option_map (moved_var (swap a)) (op_name o)) (op_task o)
     ≡ changed_op (by_names (swap a)) o
 turned a o =
     let c = by_names (swap a) in
-    ap₂ (λ code times. op_by code times (option_map c.var (op_name o)) (op_task o)) (sym (grind arith)) (sym (times_changed c o))
+    ap₂ (λ code times. op_by code times (option_map c.var (op_name o)) (op_task o)) (sym (grind arith)) (sym (grind arith))
     ∙ ap₂ (op_by (op_code (changed_op c o)) (op_times (changed_op c o))) (sym (name_changed c o))
-    (sym (option_same _ (λ t. refl) (op_task o)) ∙ sym (task_changed c o))
+    (sym (option_same _ (λ t. refl) (op_task o)) ∙ sym (grind arith))
     ∙ told (changed_op c o)
 
 -- ---- which name takes a name's place
@@ -116,10 +109,7 @@ call_right each e1 e = grind arith
 
 module _ (a : ℕ) where
   name_right : (x y : Option Var) → turned_name a x y ≡ true → option_map (moved_var (swap a)) x ≡ y
-  name_right None None e = refl
-  name_right (Some x) (Some y) e = ap Some (other_is a x) ∙ (λ i. Some (record { 0 = eqb-true (other_name a x).0 y.0 e i }))
-  name_right None (Some y) e = absurd (let f : false ≡ true = e in cc)
-  name_right (Some x) None e = absurd (let f : false ≡ true = e in cc)
+  name_right each e1 e = grind (arith, other_is, eqb-true, other_name)
 
   op_right : (x y : Op) → turned_op a x y ≡ true → changed_op (by_names (swap a)) x ≡ y
   op_right x y e =
@@ -136,31 +126,17 @@ module _ (a : ℕ) where
       ∙ told y
 
   line_right : (x y : CallbackLine) → turned_line a x y ≡ true → changed_callback (by_names (swap a)) x ≡ y
-  line_right x y e =
-      let parts = and_parts (same_call x.call y.call) (turned_op a x.op y.op) e in
-      λ i. record { call = call_right x.call y.call parts.0 i; op = op_right x.op y.op parts.1 i }
+  line_right x y e = grind (arith, and_parts, call_right, op_right)
 
   lines_right : (xs ys : List CallbackLine) → turned_lines a xs ys ≡ true → map (changed_callback (by_names (swap a))) xs ≡ ys
-  lines_right [] [] e = refl
   lines_right (x ∷ xs) (y ∷ ys) e =
       let parts = and_parts (turned_line a x y) (turned_lines a xs ys) e in
       ap₂ (λ (z : CallbackLine) (zs : List CallbackLine). z ∷ zs) (line_right x y parts.0) (lines_right xs ys parts.1)
-  lines_right [] (y ∷ ys) e = absurd (let f : false ≡ true = e in cc)
-  lines_right (x ∷ xs) [] e = absurd (let f : false ≡ true = e in cc)
+  lines_right each e1 e = grind arith
 
   callbacks_right : (kind : Callback) (x y : Callbacks) → turned_callbacks a x y ≡ true
       → map (changed_callback (by_names (swap a))) (lines_of kind x) ≡ lines_of kind y
-  callbacks_right kind x y e = by kind where
-    close : ((turned_lines a x.handle y.handle && turned_lines a x.after y.after) ≡ true) × (turned_lines a x.close y.close ≡ true)
-    close = and_parts (turned_lines a x.handle y.handle && turned_lines a x.after y.after) (turned_lines a x.close y.close) e
-
-    front : (turned_lines a x.handle y.handle ≡ true) × (turned_lines a x.after y.after ≡ true)
-    front = and_parts (turned_lines a x.handle y.handle) (turned_lines a x.after y.after) close.0
-
-    by : (kind : Callback) → map (changed_callback (by_names (swap a))) (lines_of kind x) ≡ lines_of kind y
-    by callback.Handle = lines_right x.handle y.handle front.0
-    by callback.After = lines_right x.after y.after front.1
-    by callback.Close = lines_right x.close y.close close.1
+  callbacks_right kind x y e = grind (arith, and_parts, map, changed_callback, lines_right)
 
   -- of each name that is declared
   turned_below : (p : Program) (n : ℕ) → all_turned a p n ≡ true → (v : ℕ) → v < n
@@ -173,11 +149,7 @@ module _ (a : ℕ) where
         (turned_callbacks a (callbacks_of p (record { 0 = n })) (callbacks_of p (other_name a (record { 0 = n })))) e
 
     below_other : (v n : ℕ) → v < suc n → (v ≡ n → ⊥) → v < n
-    below_other v n l other = elim (cases_order v n) [
-      | inl same ↦ absurd (other same)
-      | inr (inl less) ↦ less
-      | inr (inr more) ↦ absurd (omega (arith, l, more))
-    ]
+    below_other v n l other = grind arith
 
     Goal : Type 0
     Goal = turned_callbacks a (callbacks_of p (record { 0 = v })) (callbacks_of p (other_name a (record { 0 = v }))) ≡ true
@@ -192,11 +164,7 @@ module _ (a : ℕ) where
 
   -- and none that isn't has any lines
   none_beyond : (p : Program) (v : Var) → length p.callbacks ≤ v.0 → (kind : Callback) → lines_in p kind v ≡ []
-  none_beyond p v past kind = ap (λ o. lines_of kind (unwrap_or o no_callbacks)) (slice_get_past p.callbacks v.0 past) ∙ by kind where
-    by : (kind : Callback) → lines_of kind no_callbacks ≡ []
-    by callback.Handle = refl
-    by callback.After = refl
-    by callback.Close = refl
+  none_beyond p v past kind = grind (arith, unwrap_or, no_callbacks, slice_get_past)
 
   pub lines_turned : (p : Program) → a + 1 < length p.callbacks → all_turned a p (length p.callbacks) ≡ true → (kind : Callback) (v : Var)
       → lines_in p kind (moved_var (swap a) v) ≡ map (changed_callback (by_names (swap a))) (lines_in p kind v)
@@ -207,11 +175,7 @@ module _ (a : ℕ) where
         ap (lines_in p kind) (other_is a v)
         ∙ sym (callbacks_right kind (callbacks_of p v) (callbacks_of p (other_name a v))
         (turned_below p (length p.callbacks) all v.0 (ltb-true v.0 (length p.callbacks) below)))
-    by false past =
-        let beyond = not_less v.0 (length p.callbacks) past in
-        let stays : place_of (swap a) v.0 ≡ v.0 = other_stays a v.0 (λ e. omega (arith, e, within, beyond)) (λ e. omega (arith, e, within, beyond)) in
-        ap (λ n. lines_in p kind (record { 0 = n })) stays ∙ none_beyond p v beyond kind
-        ∙ sym (ap (map (changed_callback (by_names (swap a)))) (none_beyond p v beyond kind))
+    by false past = grind (arith, not_less, length, place_of, other_stays, lines_in, none_beyond, map, changed_callback)
 
 -- ---- line by line
 
@@ -220,8 +184,7 @@ other_length a (x ∷ xs) (y ∷ ys) differ =
     by (turned_line a x y) (turned_lines a xs ys) (other_length a xs ys (λ e. differ (ap suc e)))
   where
     by : (b c : Bool) → false ≡ c → false ≡ (b && c)
-    by true c e = e
-    by false c e = refl
+    by b c e = grind arith
 other_length a each e2 differ = grind arith
 
 front_of : (a : ℕ) (xs ys : List CallbackLine) (k : ℕ) (d : CallbackLine) → k < length xs → k < length ys

@@ -1,5 +1,5 @@
 -- Each worker that runs a request may finish it.
-use Rattle.uv_find.proofs.Names.{◌≡◌, ℕ, zero, suc, ◌<◌, true, List, [], ◌∷◌, ◌++◌, length, nat_lt, slice_get, option_and_then, refl, sym, ap, subst, ◌∙◌, Option, Some, None, if◌then◌else◌, true≢false, arith, option_map, same_Some, slice_get-map, Event, Id, Request, Program, worker_count, Moves, run_by, State, request, after-nil, after-moves, has_id, run_ids, AreDistinct, AreOpened, IsInSlot, has_at, one_in_slot, Asked, Step, Offered, Left, Kept, may_take_at_once, Course, IsOffered, LeadsOn, EachFinishes, Rules, Place, Choice, Led, at_will, finishes, times_left, lessened, lessened_by, chosen, offered_by, beginning, first_left, timed, brief, move_count, move_count_by, key_at, keys_run, rank_of, runner, finish_by, ranked, rules_of}
+use Rattle.uv_find.proofs.Names.{◌≡◌, ℕ, zero, suc, ◌<◌, true, List, [], ◌∷◌, ◌++◌, length, nat_lt, slice_get, option_and_then, refl, sym, ap, subst, ◌∙◌, Option, Some, None, true≢false, arith, option_map, same_Some, slice_get-map, Event, Id, Request, Program, worker_count, Moves, run_by, State, request, after-nil, after-moves, has_id, run_ids, AreDistinct, AreOpened, IsInSlot, has_at, one_in_slot, Asked, Step, Left, Kept, may_take_at_once, Course, IsOffered, LeadsOn, EachFinishes, Rules, Place, Choice, Led, at_will, finishes, lessened, chosen, offered_by, beginning, first_left, timed, brief, move_count, move_count_by, key_at, keys_run, rank_of, runner, finish_by, ranked, rules_of}
 use Rattle.uv_ids.specs.declared.event.Event.TheVariants as event
 use Rattle.uv_model.specs.After.{after}
 use Rattle.uv_model.specs.Next.{next}
@@ -14,10 +14,7 @@ use Rattle.uv_find.proofs.Runners.{after_long, rank_slot, slot_rank, key_there, 
 -- ---- what is left
 
 pub at_will_kept : (xs : List Left) (i k : ℕ) → slice_get xs i ≡ Some left.AtWill → slice_get (lessened xs k) i ≡ Some left.AtWill
-at_will_kept (x ∷ xs) (suc i) (suc k) e = by (slice_get xs k) (at_will_kept xs i k e) where
-  by : (o : Option Left) → slice_get (lessened_by xs k o) i ≡ Some left.AtWill → slice_get (lessened_by (x ∷ xs) (suc k) o) (suc i) ≡ Some left.AtWill
-  by None more = more
-  by (Some y) more = more
+at_will_kept (x ∷ xs) (suc i) (suc k) e = grind (arith, slice_get, suc, (at_will_kept xs i k e))
 at_will_kept each e1 e2 e = grind arith
 
 chosen_left : (xs : List Left) (kept : Kept) (o : Option Event) (c : Choice) → chosen xs kept o ≡ Some c → c.left ≡ xs
@@ -134,11 +131,7 @@ module _ (p : Program) (asked : Asked) (q : Place) (differ : asked.differ ≡ No
       record {
         number = suc (suc number);
         choice = choice;
-        offered = choice_is r differ q (suc (suc number))
-            ∙ ap (λ b. chosen (lessened q.left (suc (suc number))) q.kept
-            (if b then offered_by r q (slice_get r.offers (suc (suc number))) (slice_get q.left (suc (suc number))) else None)) within
-            ∙ (λ i. chosen (lessened q.left (suc (suc number))) q.kept (offered_by r q (here i) (will i)))
-            ∙ ap (chosen (lessened q.left (suc (suc number))) q.kept) comes;
+        offered = grind (arith, choice_is, suc, slice_get, will);
         event = refl;
       }
 
@@ -157,11 +150,7 @@ module _ (p : Program) (asked : Asked) (es : List Event) (q : Place) (worker : �
   count = long p state.0 q.state state.1 worker id there
 
   begins : (number : ℕ) → number < worker_count p → slice_get (beginning all).left (suc (suc number)) ≡ Some left.AtWill
-  begins number below =
-      let times = λ (o : Offered). times_left o.times in
-      ap (λ d. slice_get (first_left d all.offers all.recorded) (suc (suc number))) differ ∙ slice_get-map times all.offers (suc (suc number))
-      ∙ ap (option_map times) (behind_first (may_take_at_once p asked) (finishes (worker_count p)) asked.offers number
-      ∙ finish_in (worker_count p) number asked.offers below)
+  begins number below = grind (arith, slice_get, first_left, suc, slice_get-map, option_map, behind_first, worker_count, finish_in)
 
   will : (number : ℕ) → number < worker_count p → slice_get q.left (suc (suc number)) ≡ Some left.AtWill
   will number below = course_left all differ (beginning all) es q (suc (suc number)) course (begins number below)

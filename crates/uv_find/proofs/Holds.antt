@@ -1,13 +1,10 @@
 -- What holds where moves are held back.
-use Rattle.uv_find.proofs.Names.{◌≡◌, ℕ, zero, suc, ◌+◌, ◌-◌, ◌<◌, ◌≤◌, Bool, true, false, ◌&&◌, not, List, [], ◌∷◌, ◌++◌, length, length-append, Some, None, slice_get, if◌then◌else◌, ◌⊎◌, inl, inr, refl, sym, ap, subst, ◌∙◌, append_assoc, arith, unwrap_or, list_any, and_parts, same_Some, none-some, Program, worker_count, Asked, Step, Offered, can_meet, can_all_meet, asks_late, is_empty, may_hold, hold_of, is_clear_of_takes, are_clear_of_takes, is_of_pool, may_take_at_once, loop_number, at_will, finishes, first_offer, first_offers, offer_spares, offers_spare, is_mate, mates_of, mates_in, has_mate, AreMates, AreOfPool, CanHold, CanTakeAtOnce, MayHold, rules_of}
+use Rattle.uv_find.proofs.Names.{◌≡◌, ℕ, zero, suc, ◌+◌, ◌-◌, ◌<◌, ◌≤◌, Bool, true, false, ◌&&◌, not, List, [], ◌∷◌, ◌++◌, length, length-append, Some, None, slice_get, if◌then◌else◌, ◌⊎◌, inl, inr, refl, ap, ◌∙◌, append_assoc, arith, list_any, and_parts, same_Some, none-some, Program, worker_count, Asked, Step, Offered, can_meet, can_all_meet, asks_late, may_hold, hold_of, is_of_pool, may_take_at_once, loop_number, at_will, finishes, first_offers, offer_spares, offers_spare, is_mate, mates_of, mates_in, has_mate, AreMates, AreOfPool, CanHold, CanTakeAtOnce, MayHold, rules_of}
 use Rattle.uv_ids.specs.declared.event.Event.TheVariants as event
 use Rattle.uv_find.proofs.Forgets.{all_front}
 use Rattle.uv_find.proofs.Led.{each}
 use Rattle.uv_find.proofs.Meeting.{not_true}
 use Rattle.uv_find.proofs.Offers.{offers_are, finish_in}
-
-none_in : {A : Type 0} (xs : List A) → is_empty xs ≡ true → xs ≡ []
-none_in xs e = grind arith
 
 finishes_of_pool : (ticks : Bool) (workers : ℕ) → can_all_meet ticks (finishes workers) ≡ true
 finishes_of_pool ticks zero = refl
@@ -45,8 +42,7 @@ holding p asked ticks may pool =
 behind_loop : (p : Program) (asked : Asked) (ticks : Bool) → hold_of asked ≡ Some ticks → CanHold (rules_of p asked) ticks
 behind_loop p asked ticks e = by (may_hold asked) refl e where
   of_pool : may_hold asked ≡ true → (b : Bool) → can_all_meet false asked.offers ≡ b → not b ≡ ticks → can_all_meet ticks asked.offers ≡ true
-  of_pool may true none is = subst (λ t. can_all_meet t asked.offers ≡ true) is none
-  of_pool may false some is = subst (λ t. can_all_meet t asked.offers ≡ true) is (and_parts _ _ may).1
+  of_pool may b e2 is = grind arith
 
   by : (b : Bool) → may_hold asked ≡ b → (if b then Some (not (can_all_meet false asked.offers)) else None) ≡ Some ticks
       → CanHold (rules_of p asked) ticks
@@ -60,13 +56,9 @@ behind_finishes zero ys i l = let same : i ≡ i - 0 = omega arith in ap (slice_
 behind_finishes (suc n) ys i l =
     grind (arith, append_assoc, (behind_finishes n (at_will (Step (event.Finish n)) ∷ ys) i (omega (arith, l))))
 
-asked_clear : (once : Bool) (workers : ℕ) (asked : List Offered) → are_clear_of_takes asked ≡ true → (i : ℕ) (o : Offered) → workers + 2 ≤ i
-    → slice_get (first_offers once ++ (finishes workers ++ asked)) i ≡ Some o → is_clear_of_takes o.offer ≡ true
-asked_clear once workers asked all i o l at = grind (arith, each, behind_finishes)
-
 -- where only that of the pool is asked, finishes go by ranks
 of_pool : (p : Program) (asked : Asked) → is_of_pool p asked ≡ true → AreOfPool (rules_of p asked)
-of_pool p asked is = grind (arith, and_parts, offers_are, finish_in, asked_clear, none_in)
+of_pool p asked is = grind (arith, and_parts, offers_are, finish_in, each, behind_finishes)
 
 -- where a worker may take a request at once, that is the first offer
 taking : (p : Program) (asked : Asked) → may_take_at_once p asked ≡ true → CanTakeAtOnce (rules_of p asked)
@@ -93,18 +85,13 @@ mate_at p asked (suc n) a h = by (mate_at p asked n a) (get_either (mates_of p a
       → (slice_get (mates_of p asked n ++ is_mate p asked n ∷ []) a ≡ slice_get (mates_of p asked n) a)
       ⊎ ((a ≡ length (mates_of p asked n)) × (slice_get (mates_of p asked n ++ is_mate p asked n ∷ []) a ≡ Some (is_mate p asked n)))
       → (a < suc n) × (is_mate p asked a ≡ true)
-  by more (inl same) =
-      let before = more (ap (λ o. unwrap_or o false) (sym same) ∙ h) in
-      (omega (arith, before.0), before.1)
+  by more (inl same) = grind arith
   by more (inr (last, is)) =
       let one : a ≡ n = last ∙ long n in (grind arith)
 
 spared_finishes : (a workers : ℕ) → offers_spare a (finishes workers) ≡ true
 spared_finishes a zero = refl
 spared_finishes a (suc n) = simp (all_front, (spared_finishes a n))
-
-spared_first : (a : ℕ) (b : Bool) → offer_spares a (first_offer b) ≡ true
-spared_first a b = grind arith
 
 mates_alike : (p : Program) (asked : Asked) (a : ℕ) → is_of_pool p asked ≡ true → a + 1 < length p.callbacks → is_mate p asked a ≡ true
     → AreMates (rules_of p asked) a
@@ -118,7 +105,7 @@ mates_alike p asked a pool within is =
       of_pool = of_pool p asked pool;
       within = within;
       turned = offers.0;
-      offers = grind (arith, offers_are, all_front, spared_first, spared_finishes);
+      offers = grind (arith, offers_are, all_front, spared_finishes);
       bounds = bounds.1;
       question = question.1;
     }

@@ -1,5 +1,5 @@
 -- Where a move leads: on by an event that is brief, to a spot.
-use Rattle.uv_find.proofs.Names.{◌≡◌, ℕ, zero, suc, ◌+◌, ◌<◌, Bool, true, false, List, [], ◌∷◌, ◌++◌, length, nat_lt, refl, sym, ap, subst, ◌∙◌, Option, Some, None, if◌then◌else◌, slice_get, length-append, arith, list_all, and_parts, same_Some, none-some, Event, Seen, State, Next, Moves, Refuses, after-push, Offered, Left, Kept, Rules, Place, Choice, Led, led, led_by, placed, choice_by, chosen, lessened, offered_by, offered_here, is_brief, brief, move_count, taken, reached, is_within, ranked, answers, LeadsOn, Spot, spot_of, next_spot, MayForget, AreBrief, is_few, IsSpot}
+use Rattle.uv_find.proofs.Names.{◌≡◌, ℕ, zero, suc, ◌+◌, ◌<◌, Bool, true, List, [], ◌∷◌, ◌++◌, length, nat_lt, refl, sym, ap, subst, ◌∙◌, Option, Some, None, if◌then◌else◌, slice_get, length-append, arith, list_all, and_parts, same_Some, none-some, Event, Seen, State, Next, Moves, after-push, Offered, Left, Kept, Rules, Place, Choice, Led, led, led_by, placed, choice_by, chosen, lessened, offered_by, offered_here, is_brief, brief, move_count, reached, is_within, ranked, answers, LeadsOn, Spot, spot_of, next_spot, MayForget, AreBrief, is_few, IsSpot}
 use Rattle.uv_model.specs.Next.{next}
 use Rattle.uv_model.specs.After.{after}
 use Rattle.uv_find.specs.Orders.{choice_at}
@@ -8,27 +8,14 @@ module _ (r : Rules) (p : Place) (number : ℕ) (l : Led) where
   by_within : (c : Choice) (s : State) (line : Option Seen) (b : Bool) → choice_at r p number ≡ Some c → next r.program p.state c.event ≡ Moves s line
       → is_within r.most s ≡ b
       → placed r c (if◌then◌else◌ {A = Option (State × Option Seen)} b (Some (s, line)) None) ≡ Some l → LeadsOn r p l
-  by_within c s line true offered accepted within is =
-      let one : ◌≡◌ {A = Led} (record { event = c.event; place = taken r c s line; line = line }) l = cc in
-      subst (LeadsOn r p) one (record {
-        number = number;
-        choice = c;
-        offered = offered;
-        event = refl;
-        accepted = accepted;
-        within = within;
-        taken = refl;
-      })
-  by_within c s line false offered accepted within is = absurd (let f : ⊥ = cc in f)
+  by_within c s line b offered accepted within is = grind arith
 
   by_next : (c : Choice) (x : Next) → choice_at r p number ≡ Some c → next r.program p.state c.event ≡ x → placed r c (reached r.most x) ≡ Some l
       → LeadsOn r p l
-  by_next c (Refuses why) offered accepted is = absurd (let f : ⊥ = cc in f)
-  by_next c (Moves s line) offered accepted is = by_within c s line (is_within r.most s) offered accepted refl is
+  by_next c x offered accepted is = grind (arith, by_within)
 
   by_choice : (c : Option Choice) → choice_at r p number ≡ c → led_by r p c ≡ Some l → LeadsOn r p l
-  by_choice None offered is = absurd (let f : ⊥ = cc in f)
-  by_choice (Some c) offered is = by_next c (next r.program p.state c.event) offered refl is
+  by_choice c offered is = grind (arith, by_next)
 
   -- a choice that leads on is an event that does
   pub led_leads : led r p number ≡ Some l → LeadsOn r p l
@@ -82,8 +69,7 @@ choice_brief r p number c may h = by r.forget refl where
   by (Some n) some =
       let differ = (may n some).differ in
       let offer = ap (choice_by r p number) (sym differ) ∙ within (nat_lt number (move_count r p)) h in
-      offered_brief r p (slice_get r.offers number) (slice_get p.left number) c.event
-      (chosen_is (lessened p.left number) p.kept (offered_by r p (slice_get r.offers number) (slice_get p.left number)) c offer)
+      search (offered_brief, slice_get, chosen_is)
 
 -- ---- a spot, with an event more that leads on
 

@@ -1,5 +1,5 @@
 -- What a search reads of a line is the same of a line that leaves out times, ids and the numbers of workers.
-use Rattle.uv_find.proofs.Names.{◌≡◌, ◌==◌, Bool, true, false, Option, Some, ap, sym, ◌∙◌, arith, option_map, Code, Var, Seen, Program, told_line, line_by, answers_code, begins_section, begins_poll, caller, is_poll, begun, answered_name, Phase}
+use Rattle.uv_find.proofs.Names.{◌≡◌, ◌==◌, Bool, true, false, Option, ap, sym, ◌∙◌, arith, option_map, Code, Var, Seen, Program, told_line, line_by, answers_code, begins_section, begins_poll, caller, begun, answered_name, Phase}
 use Rattle.uv_ids.specs.declared.seen.Seen.TheVariants as seen
 
 -- the line without them
@@ -32,9 +32,6 @@ plain_section p word l = grind arith
 
 pub plain_poll : (p : Program) (l : Seen) → begins_poll (plain_line p l) ≡ begins_poll l
 plain_poll p l = grind arith
-
-pub plain_is_poll : (p : Program) (l : Seen) → is_poll (Some (plain_line p l)) ≡ is_poll (Some l)
-plain_is_poll p l = grind arith
 
 -- a tick, in which a callback's time goes by
 abbrev pub is_tick : Seen → Bool

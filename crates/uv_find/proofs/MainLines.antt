@@ -1,7 +1,5 @@
 -- The main program never goes back: a step leads to no line before the one at which it stood.
-use Rattle.uv_find.proofs.Names.{◌≡◌, ℕ, ◌+◌, ◌≤◌, Bool, true, false, ◌&&◌, Option, Some, None, Result, Ok, Err, slice_get, nat_le, nat_lt, length, if◌then◌else◌, refl, sym, subst, arith, Code, Event, Loop, Take, Finish, Cancel, Send, Io, Tick, Why, Id, Var, Order, HandleRecord, WatcherKind, Program, order_of, from_heap, has_io, lines_in, CallbackLine, MainOp, Request, line_of, LATEST, State, front, front_request, live_handle, live_request, watched, Next, Moves, Refuses, goes, way, first_due, may_leave, takes_io, io_run, io_handle, Body, Main, Running, Run, Stage, send_refusal, Entry, Pending, Walking, Poll, Polled, Done, DoneUnwoken, Closing, Timers, TimersOf, Collecting, Firing, Timing, Turn, AtEntry, Behind, BehindClosing, Way, ToTimers, ToPending, ToEnd, found_both}
-use Rattle.uv_records.specs.declared.lists.WatcherKind.TheVariants as watcher
-use Rattle.uv_script.specs.declared.op.MainOp.TheVariants as main
+use Rattle.uv_find.proofs.Names.{◌≡◌, ℕ, ◌+◌, ◌≤◌, Bool, Option, Result, slice_get, nat_le, nat_lt, length, if◌then◌else◌, sym, subst, arith, Code, Event, Loop, Take, Finish, Cancel, Send, Io, Tick, Why, Id, Var, Order, HandleRecord, WatcherKind, Program, order_of, from_heap, lines_in, CallbackLine, MainOp, Request, line_of, LATEST, State, front, front_request, live_handle, live_request, Next, Moves, Refuses, goes, way, first_due, may_leave, io_run, io_handle, Body, Run, Stage, Entry, Pending, Walking, Poll, Polled, Done, DoneUnwoken, Closing, Timers, TimersOf, Timing, Turn, AtEntry, Behind, BehindClosing, Way, found_both}
 use Rattle.uv_model.specs.Ops as ops
 use Rattle.uv_model.specs.Next as steps
 use Rattle.uv_model.specs.Next.{next}
@@ -16,9 +14,7 @@ either n b x y h k = grind arith
 
 module _ (p : Program) (n : ℕ) where
   goes_past : (o : Order) (s : State) (run : Run) (w : Way) → n ≤ run.line → StaysPast n (steps.goes_by o s run w)
-  goes_past o s run (ToTimers part) l = l
-  goes_past o s run ToPending l = l
-  goes_past o s run ToEnd l = omega (arith, l)
+  goes_past o s run each l = grind arith
 
   turns_past : (s : State) (run : Run) (turn : Turn) → n ≤ run.line → StaysPast n (steps.turns (order_of p) s run turn)
   turns_past s run turn l = goes_past (order_of p) s run (way (order_of p) run.mode (goes s) turn) l
@@ -33,27 +29,10 @@ module _ (p : Program) (n : ℕ) where
   collect_past s run part l = found_both (first_due s s.timers) _ _ (StaysPast n) (λ t e. l) (λ e. fire_past s run part l)
 
   timers_past : (s : State) (run : Run) (part : TimersOf) (timing : Timing) → n ≤ run.line → StaysPast n (steps.timers p s run part timing)
-  timers_past s run part Collecting l = either n (from_heap p) _ _ (call_due_past s run part l) (collect_past s run part l)
-  timers_past s run part Firing l = fire_past s run part l
-
-  after_walk_past : (s : State) (run : Run) (kind : WatcherKind) → n ≤ run.line → StaysPast n (steps.after_walk s run kind)
-  after_walk_past s run watcher.Idle l = l
-  after_walk_past s run watcher.Prepare l = l
-  after_walk_past s run watcher.Check l = l
-  after_walk_past s run watcher.Async l = l
-
-  walk_past : (s : State) (run : Run) (kind : WatcherKind) → n ≤ run.line → StaysPast n (steps.walk p s run kind)
-  walk_past s run kind l = found_both (front s (watched s kind).yet) _ _ (StaysPast n) (λ t e. l) (λ e. after_walk_past s run kind l)
-
-  walk_async_past : (s : State) (run : Run) → n ≤ run.line → StaysPast n (steps.walk_async p s run)
-  walk_async_past s run l = found_both (front s s.watchers.async.yet) _ _ (StaysPast n) (λ t e. either n t.1.pending _ _ l l)
-      (λ e. after_walk_past s run watcher.Async l)
+  timers_past s run part timing l = grind (arith, either, from_heap, call_due_past, collect_past, fire_past)
 
   in_walk_past : (s : State) (run : Run) (kind : WatcherKind) → n ≤ run.line → StaysPast n (steps.in_walk p s run kind)
-  in_walk_past s run watcher.Async l = walk_async_past s run l
-  in_walk_past s run watcher.Idle l = walk_past s run watcher.Idle l
-  in_walk_past s run watcher.Prepare l = walk_past s run watcher.Prepare l
-  in_walk_past s run watcher.Check l = walk_past s run watcher.Check l
+  in_walk_past s run each l = grind arith
 
   close_past : (s : State) (run : Run) → n ≤ run.line → StaysPast n (steps.close_front p s run)
   close_past s run l = found_both (front s s.closing.yet) _ _ (StaysPast n) (λ t e. l) (λ e. turns_past s run BehindClosing l)
@@ -62,8 +41,7 @@ module _ (p : Program) (n : ℕ) where
   collect_request_past s run l = found_both (front_request s s.done.yet) _ _ (StaysPast n) (λ t e. l) (λ e. l)
 
   leave_past : (s : State) (run : Run) (woken : Bool) → n ≤ run.line → StaysPast n (steps.leave_polled s run woken)
-  leave_past s run true l = l
-  leave_past s run false l = l
+  leave_past s run woken l = grind arith
 
   stage_past : (s : State) (run : Run) (stage : Stage) → n ≤ run.line → StaysPast n (steps.stage_step p s run stage)
   stage_past s run Entry l = turns_past s run AtEntry l
@@ -77,47 +55,33 @@ module _ (p : Program) (n : ℕ) where
   stage_past s run (Timers part timing) l = timers_past s run part timing l
 
   body_past : (s : State) (run : Run) (body : Body) (o : Option CallbackLine) → n ≤ run.line → StaysPast n (steps.body_step p s run body o)
-  body_past s run body None l = l
-  body_past s run body (Some line) l = l
+  body_past s run body o l = grind arith
 
   run_past : (s : State) (run : Run) (o : Option Body) → n ≤ run.line → StaysPast n (steps.run_step p s run o)
-  run_past s run None l = stage_past s run run.stage l
-  run_past s run (Some body) l = body_past s run body (slice_get (lines_in p body.callback body.name) body.next) l
+  run_past s run o l = grind (arith, stage_past, body_past, slice_get, lines_in)
 
   main_past : (o : Order) (s : State) (line : ℕ) (op : Option MainOp) → n ≤ line → StaysPast n (steps.main_step o s line op)
-  main_past o s line None l = tt
-  main_past o s line (Some (main.Run mode)) l = l
-  main_past o s line (Some (main.Op op)) l = omega (arith, l)
+  main_past o s line each l = grind arith
 
   loop_past : (s : State) (place : Place) → n ≤ line_of place → StaysPast n (steps.loop_step p s place)
-  loop_past s (Main line) l = main_past (order_of p) s line (slice_get p.main line) l
-  loop_past s (Running run) l = run_past s run run.body l
+  loop_past s place l = grind (arith, main_past, order_of, slice_get, run_past)
 
   -- ---- from outside
 
   sent_place : (s : State) (r : Result (Id × HandleRecord) Code) → (ops.send s r).state.place ≡ s.place
-  sent_place s (Err code) = refl
-  sent_place s (Ok t) = found_both (send_refusal t.1) _ _ (λ (c : ops.Coded). c.state.place ≡ s.place) (λ code e. refl) (λ e. refl)
+  sent_place s r = grind arith
 
   cancelled_place : (s : State) (r : Result (Id × Request) Code) → (ops.cancel s r).state.place ≡ s.place
-  cancelled_place s (Err code) = refl
-  cancelled_place s (Ok t) = grind arith
+  cancelled_place s r = grind arith
 
   io_past : (s : State) (v : Var) (place : Place) (o : Option Id) → n ≤ line_of place → StaysPast n (steps.call_io p s v (io_run p s place) o)
-  io_past s v (Main line) o l = tt
-  io_past s v (Running run) o l = by (has_io p && takes_io s run.stage run.body) o where
-    by : (b : Bool) (o : Option Id) → StaysPast n (steps.call_io p s v (if b then Some run else None) o)
-    by true None = tt
-    by true (Some id) = l
-    by false o = tt
+  io_past s v place o l = grind arith
 
   take_past : (s : State) (k : ℕ) (r : Result (Id × Request) Why) → n ≤ line_of s.place → StaysPast n (steps.take s k r)
-  take_past s k (Err why) l = tt
-  take_past s k (Ok t) l = l
+  take_past s k r l = grind arith
 
   finish_past : (s : State) (k : ℕ) (r : Result (Id × Request) Why) → n ≤ line_of s.place → StaysPast n (steps.finish s k r)
-  finish_past s k (Err why) l = tt
-  finish_past s k (Ok t) l = l
+  finish_past s k r l = grind arith
 
   pub next_past : (s : State) (e : Event) → n ≤ line_of s.place → StaysPast n (next p s e)
   unfolding next

@@ -1,9 +1,8 @@
 -- Two moves from a place where the first is apart: made in either order they meet.
-use Rattle.uv_find.proofs.Names.{◌≡◌, ℕ, suc, ◌+◌, ◌<◌, ◌&&◌, ◌||◌, not, Bool, true, false, List, [], ◌∷◌, ◌++◌, length, length-append, nat_lt, slice_get, refl, sym, ap, ap₂, subst, ◌∙◌, Option, Some, None, if◌then◌else◌, arith, and_parts, ltb-true, same_Some, Event, Loop, Seen, State, Next, Moves, Refuses, reads_clock, is_apart, Meets, LeavesPlace, loop_keeps, ticks_apart, takes_apart, finishes_apart, tick_leaves, take_leaves, finish_leaves, Meet, IsApart, CoversMoves, Step, Offered, Kept, Left, can_meet, is_loop_apart, is_at_will, loop_number, may_take_io, kept_after, owes, Rules, Place, Choice, Led, led, led_by, placed, chosen, offered_by, may_take, event_of, timed, keeps_clock, brief, is_brief, at_will, taken, reached, is_within, lessened, move_count, move_count_by, keys_run, ranked, answers, line_answers, place_answers, Spot, CanHold, next_spot, spot_of, spot_code, apart, apart_by, is_loop_first, is_few, IsSpot, IsStanding, HasRoom, IsTold}
+use Rattle.uv_find.proofs.Names.{◌≡◌, ℕ, suc, ◌+◌, ◌<◌, ◌&&◌, ◌||◌, not, Bool, true, false, List, [], ◌∷◌, length, length-append, nat_lt, slice_get, refl, sym, ap, ap₂, subst, ◌∙◌, Option, Some, None, if◌then◌else◌, arith, and_parts, ltb-true, same_Some, Event, Loop, Seen, State, Next, Moves, Refuses, reads_clock, is_apart, Meets, LeavesPlace, loop_keeps, ticks_apart, takes_apart, finishes_apart, tick_leaves, take_leaves, finish_leaves, Meet, IsApart, CoversMoves, Step, Offered, Kept, Left, can_meet, is_loop_apart, is_at_will, loop_number, may_take_io, kept_after, owes, Rules, Place, Choice, Led, led, led_by, placed, chosen, offered_by, may_take, event_of, timed, keeps_clock, brief, is_brief, at_will, taken, reached, is_within, lessened, move_count, move_count_by, keys_run, ranked, answers, line_answers, place_answers, Spot, CanHold, next_spot, spot_of, spot_code, apart, apart_by, is_loop_first, is_few, IsSpot, IsStanding, HasRoom, IsTold}
 use Rattle.uv_ids.specs.declared.event.Event.TheVariants as event
 use Rattle.uv_model.specs.Next.{next}
 use Rattle.uv_apart.proofs.Cancels.{apart_cancels}
-use Rattle.uv_find.specs.declared.left.Left.TheVariants as left
 use Rattle.uv_find.proofs.Keys.{keys_stay}
 use Rattle.uv_find.proofs.Led.{event_at, choice_is, spots_lead}
 use Rattle.uv_find.proofs.Covering.{spots_alike}
@@ -32,16 +31,7 @@ module _ (r : Rules) (differ : r.differ ≡ None) (p : Place) (n : ℕ) where
     within : (e : Event) (t : State) (line : Option Seen) (b : Bool) → is_within r.most t ≡ b → event_at r p n ≡ Some e
         → next r.program p.state e ≡ Moves t line
         → placed r (choice e) (if◌then◌else◌ {A = Option (State × Option Seen)} b (Some (t, line)) None) ≡ Some l → IsLed r p n l
-    within e t line false bound at goes g = absurd (let f : ⊥ = cc in f)
-    within e t line true bound at goes g = record {
-      event = e;
-      state = t;
-      line = line;
-      offered = at;
-      goes = goes;
-      within = bound;
-      is = sym (same_Some (record { event = e; place = taken r (choice e) t line; line = line }) l g);
-    }
+    within e t line b bound at goes g = grind arith
 
     to : (e : Event) (x : Next) → event_at r p n ≡ Some e → next r.program p.state e ≡ x → placed r (choice e) (reached r.most x) ≡ Some l
         → IsLed r p n l
@@ -54,8 +44,7 @@ module _ (r : Rules) (differ : r.differ ≡ None) (p : Place) (n : ℕ) where
 
   pub led_is : (e : Event) (t : State) (line : Option Seen) → is_within r.most t ≡ true → event_at r p n ≡ Some e
       → next r.program p.state e ≡ Moves t line → led r p n ≡ Some (record { event = e; place = taken r (choice e) t line; line = line })
-  led_is e t line within at goes =
-      ap (led_by r p) (choice_is r differ p n) ∙ rw (at, goes, within) refl
+  led_is e t line within at goes = grind (arith, choice_is)
 
 -- the same of two moves, by what they are told to lead to
 pub meet_by : (r : Rules) (s m q : Spot) (b c : Bool) (x y : Led) → m ≡ after_event s x → b ≡ answers r s.place x → q ≡ after_event s y
@@ -99,15 +88,7 @@ module _ (r : Rules) (ticks : Bool) (can : CanHold r ticks) where
 
   -- the loop's move
   loop_offered : (p : Place) → is_at_will (slice_get p.left loop_move) ≡ true → owes p.kept ≡ false → event_at r p loop_move ≡ Some Loop
-  loop_offered p at idle =
-      let below = loop_within p in
-      let step : event_of r.program p.state p.kept (Step Loop) ≡ Some Loop = ap (λ b. Some (if b then event.Tick p.kept.owed else Loop)) idle in
-      let here : offered_by r p (Some (at_will (Step Loop))) (Some left.AtWill) ≡ Some Loop =
-      ap (λ o. brief r.forget (ranked r.forget p.state (timed r.clock p.state.clock o))) step
-      ∙ ap (λ o. brief r.forget (ranked r.forget p.state o)) (loop_timed r.clock p.state.clock)
-      ∙ ap (brief r.forget) (loop_ranked r.forget p.state) ∙ loop_brief r.forget in
-      ap (λ b. if b then offered_by r p (slice_get r.offers loop_move) (slice_get p.left loop_move) else None) below
-      ∙ ap₂ (offered_by r p) can.loop (will_is (slice_get p.left loop_move) at) ∙ here
+  loop_offered p at idle = grind (arith, loop_within, timed, loop_timed, loop_ranked, loop_brief, slice_get, ap₂, will_is)
 
   loop_below : (p : Place) → loop_move < move_count r p
   loop_below p = ltb-true loop_move (move_count r p) (loop_within p)
@@ -179,11 +160,7 @@ module _ (r : Rules) (ticks : Bool) (can : CanHold r ticks) where
           let here = unranked p may offered in
           let of_rank = ranked_outside r.forget ticks p.state here e (brief_is (ranked r.forget p.state here) g) in
           let both = before may offered of_rank.event of of_rank.is in
-          let out = comes_outside r.program p.state ticks e (of_rank.comes both.0) none b m comes in (
-            out,
-            ap (λ o. brief r.forget (ranked r.forget q.state o)) (both.1 (of_rank.outside out))
-                ∙ ap (brief r.forget) (ranked_same r.forget q.state p.state keys here) ∙ g,
-          )
+          let out = comes_outside r.program p.state ticks e (of_rank.comes both.0) none b m comes in (grind (arith, ranked_same))
 
       by : (c : Bool) (o : Option Offered) (x : Option Left) → slice_get r.offers i ≡ o → (if c then offered_by r p o x else None) ≡ Some e
           → (is_outside ticks e ≡ true) × ((if c then offered_by r q o x else None) ≡ Some e)
@@ -204,15 +181,7 @@ module _ (r : Rules) (ticks : Bool) (can : CanHold r ticks) where
       (apart_cancels r.program s.place.state (and_parts (is_apart r.program s.place.state) _ first).0) goes comes
   meets_by s is (event.Finish k) a b l m out first goes comes =
       finishes_apart r.program s.steps s.place.state a b k l m is.state (and_parts (is_apart r.program s.place.state) _ first).0 goes comes
-  meets_by s is (event.Tick ms) a b l m out first goes comes =
-      ticks_apart r.program s.place.state a b ms l m
-      (unread ticks (reads_clock r.program s.place.state) out
-      (and_parts (not (ticks && reads_clock r.program s.place.state)) _ (and_parts (is_apart r.program s.place.state) _ first).1).0) goes comes
-    where
-      unread : (b c : Bool) → b ≡ true → not (b && c) ≡ true → c ≡ false
-      unread true false t g = refl
-      unread true true t g = absurd (let f : false ≡ true = g in cc)
-      unread false c t g = absurd (let f : false ≡ true = t in cc)
+  meets_by s is (event.Tick ms) a b l m out first goes comes = grind (arith, ticks_apart, reads_clock, and_parts, not)
   meets_by s is event.Loop a b l m out first goes comes = absurd (let f : false ≡ true = out in cc)
   meets_by s is (event.Cancel v) a b l m out first goes comes = absurd (let f : false ≡ true = out in cc)
   meets_by s is (event.Send v) a b l m out first goes comes = absurd (let f : false ≡ true = out in cc)
@@ -225,9 +194,7 @@ module _ (r : Rules) (ticks : Bool) (can : CanHold r ticks) where
     apart : is_apart r.program b ≡ is_apart r.program s
 
   first_by : (s b : State) → LeavesPlace r.program s b → is_loop_apart r.program ticks b ≡ is_loop_apart r.program ticks s
-  first_by s b h =
-      let io = ap (may_take_io r.program) h.place in
-      λ i. h.apart i && (not (ticks && h.clock i) && not (io i))
+  first_by s b h = cc
 
   leaves_by : (e : Event) (s b : State) (m : Option Seen) → is_outside ticks e ≡ true → next r.program s e ≡ Moves b m → Leaves s b
   leaves_by (event.Take k) s b m out comes =
@@ -239,10 +206,7 @@ module _ (r : Rules) (ticks : Bool) (can : CanHold r ticks) where
   leaves_by (event.Tick ms) s b m out comes =
       let h = tick_leaves r.program s b ms m comes in
       record { names = h.names; first = first_by s b h; apart = h.apart }
-  leaves_by event.Loop s b m out comes = absurd (let f : false ≡ true = out in cc)
-  leaves_by (event.Cancel v) s b m out comes = absurd (let f : false ≡ true = out in cc)
-  leaves_by (event.Send v) s b m out comes = absurd (let f : false ≡ true = out in cc)
-  leaves_by (event.Io v) s b m out comes = absurd (let f : false ≡ true = out in cc)
+  leaves_by each s b m out comes = grind arith
 
   -- ---- both moves, in both orders
 
@@ -264,16 +228,13 @@ module _ (r : Rules) (ticks : Bool) (can : CanHold r ticks) where
 
     idle_kept : (f : Event) (t : State) (line : Option Seen) (k : Kept) → owes k ≡ false
         → owes (kept_after r.recorded r.takes r.question k f t line) ≡ false
-    idle_kept f t line k none =
-        subst (λ ts. owes (kept_after r.recorded ts r.question k f t line) ≡ false) (sym can.takes)
-        (still_idle r.recorded r.question k f t line none)
+    idle_kept f t line k none = grind arith
 
     left_is : lessened s.place.left loop_move ≡ s.place.left
     left_is = at_will_stays s.place.left loop_move at
 
     no_io_here : may_take_io r.program s.place.state.place ≡ false
-    no_io_here = not_true (may_take_io r.program s.place.state.place)
-        (and_parts (not (ticks && reads_clock r.program s.place.state)) _ (and_parts (is_apart r.program s.place.state) _ loop_first).1).1
+    no_io_here = grind arith
 
     there : Stays s.place by_loop.place i e
     there = stays s.place by_loop.place i e a l more goes
@@ -321,8 +282,7 @@ module _ (r : Rules) (ticks : Bool) (can : CanHold r ticks) where
         ≡ kept_after r.recorded ts q (kept_after r.recorded ts q k Loop a l) e meets.state m) (sym can.takes)
         (ap (λ x. kept_after r.recorded [] q x Loop meets.state l) (kept_outside r.recorded q k ticks e b m can.question idle out)
         ∙ kept_same r.recorded q k Loop meets.state a l can.question idle
-        ∙ sym (kept_outside r.recorded q (kept_after r.recorded [] q k Loop a l) ticks e meets.state m can.question
-        (still_idle r.recorded q k Loop a l idle) out)) in
+        ∙ sym (search (kept_outside, still_idle))) in
         λ j. record { state = meets.state; left = left j; kept = kept j }
 
     names_stay : meets.state.names ≡ a.names
@@ -354,14 +314,10 @@ module _ (r : Rules) (ticks : Bool) (can : CanHold r ticks) where
       where
         by : (x y z : Bool) → answers r by_loop.place other_last ≡ y → (if x then true else y) ≡ true
             → ((if x then true else z) || answers r by_loop.place other_last) ≡ true
-        by true y z last g = refl
-        by false y true last g = refl
-        by false y false last g = last ∙ g
+        by x y z last g = grind arith
 
     few_by : (f : Led) → is_few r.forget (length (after_event s f).steps + 1) ≡ true
-    few_by f =
-        let long : length (s.steps ++ f.event ∷ []) + 1 ≡ length s.steps + 2 = omega (arith, length-append s.steps (f.event ∷ [])) in
-        ap (is_few r.forget) long ∙ few
+    few_by f = grind (arith, length, length-append)
 
     spot_is : (q : Spot) (f : Led) → is_few r.forget (length q.steps + 1) ≡ true → spot_of r q (Some f) ≡ Some (after_event q f, answers r q.place f)
     spot_is q f short = ap (λ c. if◌then◌else◌ {A = Option (Spot × Bool)} c (Some (after_event q f, answers r q.place f)) None) short

@@ -1,5 +1,5 @@
 -- Where workers run two requests that are alike, what answers behind the second one's finish answers as soon behind that of the first one.
-use Rattle.uv_find.proofs.Names.{◌≡◌, ℕ, zero, suc, ◌+◌, ◌<◌, ◌≤◌, ◌==◌, ◌&&◌, not, Bool, true, false, List, [], ◌∷◌, ◌++◌, length, slice_get, slice_set, nat_lt, nat_le, if◌then◌else◌, refl, ap, ap₂, sym, subst, ◌∙◌, Option, Some, None, arith, map, option_map, list_all, and_parts, ltb-true, none-some, same_Some, Event, Loop, Take, Finish, Cancel, Send, Io, Tick, Id, Var, Callback, Seen, Op, CallbackLine, Program, worker_count, is_for, lines_in, op_name, count_of, Named, line_of, Next, Moves, Refuses, State, named, Main, Running, run_ids, AreDistinct, holds_after, ClockFits, answers_code, begins_section, begins_poll, changed_callback, changed_event, changed_line, changed_op, changed_place, moved_var, by_names, place_of, same_place, LeadsRegular, has_at, Most, Offer, Offered, Question, Recorded, Which, Along, Kept, Left, are_at_will, is_clear_of_takes, kept_due, time_at_end, owed_after, is_poll, along_after, kept_after, offer_spares, main_spares, question_spares, is_beside, Rules, Place, Led, led, at_will, first_offer, lessened, lessened_by, move_count, offered_by, brief, is_called_within, is_within, begun, is_which, is_call, is_uncalled, answered_name, is_name, is_of, answers_line, line_answers, has_ended, place_answers, answers, rank_of, runner, finish_by, Spot, CanForget, AreOfPool, AreMates, IsSpot, is_few}
+use Rattle.uv_find.proofs.Names.{◌≡◌, ℕ, zero, suc, ◌+◌, ◌<◌, ◌≤◌, ◌==◌, ◌&&◌, not, Bool, true, false, List, [], ◌∷◌, ◌++◌, length, slice_get, slice_set, nat_lt, nat_le, if◌then◌else◌, refl, ap, ap₂, sym, subst, ◌∙◌, Option, Some, None, arith, map, option_map, list_all, and_parts, ltb-true, none-some, same_Some, Event, Finish, Id, Var, Callback, Seen, Op, CallbackLine, Program, worker_count, is_for, lines_in, op_name, count_of, Named, line_of, Next, Moves, Refuses, State, named, run_ids, AreDistinct, holds_after, ClockFits, answers_code, begins_section, begins_poll, changed_callback, changed_event, changed_line, changed_op, changed_place, moved_var, by_names, place_of, same_place, LeadsRegular, has_at, Most, Offer, Offered, Question, Recorded, Which, Along, Kept, Left, are_at_will, is_clear_of_takes, kept_due, time_at_end, owed_after, is_poll, along_after, kept_after, offer_spares, main_spares, question_spares, is_beside, Rules, Place, Led, led, at_will, first_offer, lessened, lessened_by, move_count, offered_by, brief, is_called_within, is_within, begun, is_call, is_uncalled, answered_name, is_name, is_of, answers_line, line_answers, has_ended, place_answers, answers, rank_of, runner, finish_by, Spot, CanForget, AreOfPool, AreMates, IsSpot, is_few}
 use Rattle.uv_ids.specs.declared.seen.Seen.TheVariants as seen
 use Rattle.uv_ids.specs.declared.seen.Site.TheVariants as site
 use Rattle.uv_model.specs.After.{after}
@@ -33,9 +33,6 @@ turned_line a p line = option_map (changed_line (by_names (swap a)) p) line
 
 abbrev pub mirror_led : ℕ → Program → Led → Led
 mirror_led a p l = record { event = l.event; place = mirror a l.place; line = turned_line a p l.line }
-
-twice_event : (a : ℕ) (e : Event) → changed_event (by_names (swap a)) (changed_event (by_names (swap a)) e) ≡ e
-twice_event a e = grind (arith, twice_stays)
 
 fits_same : (a : ℕ) (s : State) (e : Event) → ClockFits s e → ClockFits (mirrored a s) e
 fits_same a s e h = assumption
@@ -72,11 +69,6 @@ module _ (a : ℕ) (p : Program) where
   moved_call b = (b.0, moved_var (swap a) b.1)
 
   begun_same : (l : Seen) → begun (turned l) ≡ option_map moved_call (begun l)
-  begun_same (seen.Call v id) = refl
-  begun_same (seen.Io v id) = refl
-  begun_same (seen.After digest v id) = refl
-  begun_same (seen.Closed v id) = refl
-  begun_same (seen.Op at x) = refl
   begun_same l = grind arith
 
   code_same : (code : _) (l : Seen) → answers_code code (turned l) ≡ answers_code code l
@@ -98,9 +90,7 @@ module _ (a : ℕ) (p : Program) where
 
     call_same : (w : Which) (name : Var) (call : Option ℕ) → is_beside a (Some name) ≡ true → (x : Option (Callback × Var))
         → is_call w name call (mirrored a t) (option_map moved_call x) ≡ is_call w name call t x
-    call_same w name call e None = refl
-    call_same w name call e (Some b) =
-        ap₂ (λ c (n : Named). is_which w b.0 && c && is_for (count_of b.0 n.calls) call) (same_var b.1 name e) (named_as name e)
+    call_same w name call e x = grind (arith, ap₂, is_for, count_of, same_var, named_as)
 
     begins_same : (w : Which) (name : Var) (call : Option ℕ) → is_beside a (Some name) ≡ true → (l : Seen)
         → is_call w name call (mirrored a t) (begun (turned l)) ≡ is_call w name call t (begun l)
@@ -110,8 +100,7 @@ module _ (a : ℕ) (p : Program) where
     uncalled_same name e = ap (λ (n : Named). (n.calls.handle == 0) && (n.calls.after == 0) && (n.calls.close == 0)) (named_as name e)
 
     called_within_same : (m : Most) → is_beside a (Some m.name) ≡ true → is_called_within (mirrored a t) m ≡ is_called_within t m
-    called_within_same m e =
-        ap (λ (n : Named). nat_le n.calls.handle m.calls && nat_le n.calls.after m.calls && nat_le n.calls.close m.calls) (named_as m.name e)
+    called_within_same m e = simp (nat_le, named_as)
 
     within_same : (most : List Most) → list_all (λ (m : Most). is_beside a (Some m.name)) most ≡ true
         → is_within most (mirrored a t) ≡ is_within most t
@@ -124,26 +113,18 @@ module _ (r : Rules) (a : ℕ) (mates : AreMates r a) where
   -- what an op names, where two names are exchanged
   named_beside : (name : Var) → is_beside a (Some name) ≡ true → (o : Option Op)
       → is_name name (name_in (option_map (changed_op (by_names (swap a))) o)) ≡ is_name name (name_in o)
-  named_beside name e None = refl
-  named_beside name e (Some o) = ap (is_name name) (name_changed (by_names (swap a)) o) ∙ by (op_name o) where
-    by : (o : Option Var) → is_name name (option_map (moved_var (swap a)) o) ≡ is_name name o
-    by None = refl
-    by (Some v) = same_var a r.program v name e
+  named_beside name e o = grind (arith, name_changed, op_name, option_map, same_var)
 
   op_of : (ls : List CallbackLine) (line : ℕ)
       → option_map (λ (l : CallbackLine). l.op) (slice_get (map (changed_callback (by_names (swap a))) ls) line)
       ≡ option_map (changed_op (by_names (swap a))) (option_map (λ (l : CallbackLine). l.op) (slice_get ls line))
-  op_of [] line = refl
-  op_of (l ∷ ls) zero = refl
   op_of (l ∷ ls) (suc line) = op_of ls line
+  op_of each e1 = assumption
 
   name_same : (name : Var) → is_beside a (Some name) ≡ true → (l : Seen)
       → is_name name (answered_name r.program (turned a r.program l)) ≡ is_name name (answered_name r.program l)
   name_same name e (seen.Op (site.Main line) x) = refl
-  name_same name e (seen.Op (site.In kind v line) x) =
-      ap (λ ls. is_name name (name_in (option_map (λ (l : CallbackLine). l.op) (slice_get ls line)))) (lines_moved r a mates kind v)
-      ∙ ap (λ o. is_name name (name_in o)) (op_of (lines_in r.program kind v) line)
-      ∙ named_beside name e (option_map (λ (l : CallbackLine). l.op) (slice_get (lines_in r.program kind v) line))
+  name_same name e (seen.Op (site.In kind v line) x) = simp (name_in, option_map, slice_get, lines_moved, op_of, lines_in, named_beside)
   name_same name e (seen.After digest v id) = same_var a r.program v name e
   name_same name e (seen.Cancel v x) = same_var a r.program v name e
   name_same name e (seen.Send v code) = same_var a r.program v name e
@@ -151,34 +132,25 @@ module _ (r : Rules) (a : ℕ) (mates : AreMates r a) where
 
   of_same : (name : Option Var) → is_beside a name ≡ true → (l : Seen)
       → is_of name (answered_name r.program (turned a r.program l)) ≡ is_of name (answered_name r.program l)
-  of_same None e l = refl
-  of_same (Some name) e l = name_same name e l
+  of_same name e l = grind (arith, name_same)
 
   module _ (t : State) (wide : a + 2 ≤ length t.names) (due : ℕ) where
     line_same : (q : Question) → question_spares a q ≡ true → (l : Seen)
         → answers_line r.program q due (mirrored a t) (turned a r.program l) ≡ answers_line r.program q due t l
-    line_same (asks.Call w name call) e l = begins_same a r.program t wide w name call e l
-    line_same (asks.Code code name) e l = ap₂ (λ x y. x && y) (code_same a r.program code l) (of_same name e l)
-    line_same (asks.Section word) e l = section_same a r.program word l
-    line_same asks.Poll e l = begins_poll_same a r.program l
-    line_same (asks.Never name) e l = refl
-    line_same asks.Stuck e l = refl
-    line_same (asks.Late name ms) e l = absurd (let f : false ≡ true = e in cc)
     line_same (asks.Before name other) e l =
         let parts = and_parts (is_beside a (Some name)) (is_beside a (Some other)) e in
         ap₂ (λ x y. x && y) (begins_same a r.program t wide which.Any name None parts.0 l) (uncalled_same a r.program t wide other parts.1)
     line_same (asks.Behind name other) e l =
         let parts = and_parts (is_beside a (Some name)) (is_beside a (Some other)) e in
         ap₂ (λ x y. x && not y) (begins_same a r.program t wide which.Any name None parts.0 l) (uncalled_same a r.program t wide other parts.1)
+    line_same each e l = search (begins_same, wide, ap₂, code_same, of_same, section_same, begins_poll_same, and_parts, uncalled_same, not)
 
     lines_answer : (line : Option Seen)
         → line_answers r.program r.question due (mirrored a t) (turned_line a r.program line) ≡ line_answers r.program r.question due t line
-    lines_answer None = refl
-    lines_answer (Some l) = line_same r.question mates.question l
+    lines_answer line = grind (arith, line_same)
 
   ended_same : (q : loop.Place) → has_ended r.program (changed_place (by_names (swap a)) q) ≡ has_ended r.program q
-  ended_same (Main line) = refl
-  ended_same (Running run) = refl
+  ended_same q = grind arith
 
   place_same : (q : Place) → a + 2 ≤ length q.state.names → (question : Question) → question_spares a question ≡ true
       → place_answers r (mirror a q) question ≡ place_answers r q question
@@ -195,8 +167,7 @@ module _ (r : Rules) (a : ℕ) (mates : AreMates r a) where
 
   answers_same : (q : Place) (l : Led) → a + 2 ≤ length l.place.state.names
       → answers r (mirror a q) (mirror_led a r.program l) ≡ answers r q l
-  answers_same q l wide =
-      ap₂ (λ x y. if x then true else y) (lines_answer l.place.state wide q.kept.due l.line) (place_same l.place wide r.question mates.question)
+  answers_same q l wide = search (ap₂, lines_answer, wide, place_same)
 
 -- ---- what is kept, in one
 
@@ -244,7 +215,7 @@ module _ (change : NamesChange) (r : Rules) (a : ℕ) (mates : AreMates r a) (ta
         fits = λ e short. fits_same a q.place.state e (going.fits e short);
         leads = λ e.
             let back = changed_event (by_names (swap a)) e in
-            subst (λ f. LeadsRegular r.program (next r.program (mirrored a q.place.state) f)) (twice_event a e)
+            subst (λ f. LeadsRegular r.program (next r.program (mirrored a q.place.state) f)) (grind (arith, twice_stays))
             (subst (LeadsRegular r.program)
             (sym (next_mirrored a change r.program q.place.state back (are_alike r a mates q.place.state (wide q can.spot) can.clear)))
             (goes_regular q can.spot back (next r.program q.place.state back) refl (going.leads back)));
@@ -315,24 +286,13 @@ module _ (change : NamesChange) (r : Rules) (a : ℕ) (mates : AreMates r a) (ta
   finish_number q can k w id below there = refl
 
   clear_free : (offer : Offer) → is_clear_of_takes offer ≡ true → IsFree offer
-  clear_free (offers.Step Loop) e = tt
-  clear_free (offers.Step (Take k)) e = tt
-  clear_free (offers.Step (Finish k)) e = absurd (let f : false ≡ true = e in cc)
-  clear_free (offers.Step (Cancel v)) e = tt
-  clear_free (offers.Step (Send v)) e = tt
-  clear_free (offers.Step (Io v)) e = tt
-  clear_free (offers.Step (Tick ms)) e = tt
-  clear_free (offers.SendDuring v job) e = absurd (let f : false ≡ true = e in cc)
-  clear_free offers.Take e = tt
-  clear_free offers.Wait e = tt
-  clear_free (offers.WaitFor ms) e = tt
+  clear_free each e = grind arith
 
   pub finish_event : (q : Spot) → CanMirror q → (k : ℕ) (e : Event) → k < worker_count r.program → event_at r q.place (suc (suc k)) ≡ Some e
       → (w : ℕ) × (runner q.place.state k ≡ Some w) × (e ≡ Finish w)
   finish_event q can k e below is = by (runner q.place.state k) refl (sym shows ∙ is) where
     shows : event_at r q.place (suc (suc k)) ≡ shown r take may q.place (offers.Step (Finish k))
-    shows = at_will_is r take may q.place (suc (suc k)) (offers.Step (Finish k)) (take.finishes k below)
-        (will_of (worker_count r.program + 2) q.place.left (suc (suc k)) can.wills (omega (arith, below)))
+    shows = grind arith
 
     by : (o : Option ℕ) → runner q.place.state k ≡ o → brief (Some take.counted) (finish_by o) ≡ Some e
         → (w : ℕ) × (runner q.place.state k ≡ Some w) × (e ≡ Finish w)
@@ -340,16 +300,10 @@ module _ (change : NamesChange) (r : Rules) (a : ℕ) (mates : AreMates r a) (ta
     by (Some w) run h = (w, run, sym (same_Some (Finish w) e h))
 
   first_free : (b : Bool) → IsFree (first_offer b) × (offer_spares a (first_offer b) ≡ true)
-  first_free true = (tt, refl)
-  first_free false = (tt, refl)
+  first_free b = grind arith
 
   offered_there : (q : Place) (i : ℕ) (e : Event) → event_at r q i ≡ Some e → (o : Offered) × (slice_get r.offers i ≡ Some o)
-  offered_there q i e is = by (nat_lt i (move_count r q)) (slice_get r.offers i) refl is where
-    by : (b : Bool) (o : Option Offered) → slice_get r.offers i ≡ o → (if b then offered_by r q o (slice_get q.left i) else None) ≡ Some e
-        → (o : Offered) × (slice_get r.offers i ≡ Some o)
-    by false o at h = absurd (none-some e h)
-    by true None at h = absurd (none-some e h)
-    by true (Some o) at h = (o, at)
+  offered_there q i e is = grind arith
 
   pub turns : (q : Spot) → CanMirror q → (i : ℕ) (e : Event) → event_at r q.place i ≡ Some e → Turns q i e
   turns q can zero e is =
@@ -415,7 +369,6 @@ module _ (change : NamesChange) (r : Rules) (a : ℕ) (mates : AreMates r a) (ta
           clear = subst (λ (x : Place). main_spares a r.program x.state.place ≡ true) (sym place)
               (spares_further a r.program s.place led.state.place
               (subst (StaysPast (line_of s.place)) led.goes (next_past r.program (line_of s.place) s led.event (omega arith))) can.clear);
-          wills = subst (λ (x : Place). are_at_will (worker_count r.program + 2) x.left ≡ true) (sym place)
-              (wills_stay (worker_count r.program + 2) q.place.left i can.wills);
+          wills = grind (arith, worker_count, wills_stay);
         };
       }

@@ -1,9 +1,8 @@
 -- Moves of a search are events of a loop, and events are moves.
-use Rattle.uv_find.proofs.Names.{◌≡◌, ℕ, suc, ◌+◌, ◌<◌, ◌≤◌, length, length-append, nat_lt, if◌then◌else◌, Bool, true, false, List, [], ◌∷◌, ◌++◌, refl, sym, ap, subst, ◌∙◌, Option, Some, None, append_assoc, arith, ltb-true, common_steps, Event, LeadTo, Answers, Moves, Rules, Place, Choice, Led, led, led_by, placed, choice_by, reached, move_count, answers, Course, LeadsOn, Spot, spot_of, next_spot, is_few}
-use Rattle.uv_model.specs.Next.{next}
+use Rattle.uv_find.proofs.Names.{◌≡◌, ℕ, suc, ◌+◌, ◌<◌, ◌≤◌, length, length-append, if◌then◌else◌, Bool, true, List, [], ◌∷◌, ◌++◌, refl, ap, subst, ◌∙◌, Option, Some, None, append_assoc, arith, common_steps, Event, LeadTo, Answers, Rules, Place, Choice, Led, led, move_count, answers, Course, LeadsOn, Spot, spot_of, next_spot, is_few}
 use Rattle.uv_find.specs.Orders.{choice_at}
 use Rattle.uv_find.specs.Courses as courses
-use Rattle.uv_find.proofs.Led.{led_leads, spot_led}
+use Rattle.uv_find.proofs.Led.{led_leads}
 
 -- the spot after an event
 abbrev pub after_event : Spot → Led → Spot
@@ -17,14 +16,7 @@ module _ (r : Rules) where
 
   pub move_is : (s t : Spot) (i : ℕ) (b : Bool) → next_spot r s i ≡ Some (t, b)
       → (l : Led) × ((led r s.place i ≡ Some l) × (t ≡ after_event s l) × (b ≡ answers r s.place l))
-  move_is s t i b goes = by (led r s.place i) refl goes
-    where
-      by : (o : Option Led) → led r s.place i ≡ o → spot_of r s o ≡ Some (t, b)
-          → (l : Led) × ((led r s.place i ≡ Some l) × (t ≡ after_event s l) × (b ≡ answers r s.place l))
-      by None e h = absurd (let f : ⊥ = cc in f)
-      by (Some l) e h =
-          let k = spot_led r s l t b h in
-          (l, (e, k.0, k.1))
+  move_is s t i b goes = grind arith
 
   -- moves are a course
   pub moves_course : (s : Spot) (is : List ℕ) (t : Spot) → LeadsTo s is t
@@ -37,34 +29,21 @@ module _ (r : Rules) where
       let steps : m.steps ≡ s.steps ++ l.event ∷ [] = ap (λ x. x.steps) one.1.1 in
       let more = moves_course m is t rest in (
         l.event ∷ more.0,
-        (
-          (l, refl, led_leads r s.place i l one.1.0, subst (λ x. Course r x more.0 t.place) place more.1.0),
-          more.1.1 ∙ ap (λ xs. xs ++ more.0) steps ∙ append_assoc s.steps (l.event ∷ []) more.0,
-        ),
+        (grind (arith, led_leads, append_assoc)),
       )
 
   -- ---- an event is a move
 
   choice_below : (p : Place) (n : ℕ) (c : Choice) → choice_at r p n ≡ Some c → n < move_count r p
   unfolding choice_at
-  choice_below p n c h = by (nat_lt n (move_count r p)) refl h
-    where
-      by : (b : Bool) → nat_lt n (move_count r p) ≡ b → (if b then choice_by r p n r.differ else None) ≡ Some c → n < move_count r p
-      by true is g = ltb-true n (move_count r p) is
-      by false is g = absurd (let f : ⊥ = cc in f)
+  choice_below p n c h = grind arith
 
   leads_led : (p : Place) (l : Led) (on : LeadsOn r p l) → led r p on.number ≡ Some l
-  leads_led p l on =
-      let accepted : next r.program p.state on.choice.event ≡ Moves l.place.state l.line =
-      subst (λ e. next r.program p.state e ≡ Moves l.place.state l.line) on.event on.accepted in
-      let within : reached r.most (next r.program p.state on.choice.event) ≡ Some (l.place.state, l.line) = rw (accepted, on.within) refl in
-      ap (led_by r p) on.offered ∙ ap (placed r on.choice) within
-      ∙ (λ i. Some (record { event = sym on.event i; place = sym on.taken i; line = l.line }))
+  leads_led p l on = grind arith
 
   -- fewer steps are few, too
   pub fewer : (o : Option ℕ) (m n : ℕ) → m ≤ n → is_few o n ≡ true → is_few o m ≡ true
-  fewer None m n less few = refl
-  fewer (Some k) m n less few = grind arith
+  fewer o m n less few = grind arith
 
   one_longer : (xs : List Event) (e : Event) (n : ℕ) → length (xs ++ e ∷ []) + n ≡ length xs + suc n
   one_longer xs e n = omega (arith, length-append {A = Event})
@@ -75,8 +54,7 @@ module _ (r : Rules) where
 
   pub event_move : (s : Spot) (l : Led) (on : LeadsOn r s.place l) → is_few r.forget (length s.steps + 1) ≡ true
       → (on.number < move_count r s.place) × (next_spot r s on.number ≡ Some (after_event s l, answers r s.place l))
-  event_move s l on few =
-      (choice_below s.place on.number on.choice on.offered, ap (spot_of r s) (leads_led s.place l on) ∙ goes_on s l few)
+  event_move s l on few = search (choice_below, leads_led, goes_on)
 
   -- a course is moves
   pub course_moves : (s : Spot) (es : List Event) (q : Place) → is_few r.forget (length s.steps + length es) ≡ true → Course r s.place es q
@@ -93,13 +71,7 @@ module _ (r : Rules) where
       let steps : (s.steps ++ l.event ∷ []) ++ es ≡ s.steps ++ e ∷ es =
       append_assoc s.steps (l.event ∷ []) es ∙ ap (λ x. s.steps ++ x ∷ es) is_event in (
         on.number ∷ more.0,
-        (
-          after_event s l,
-          answers r s.place l,
-          below,
-          goes,
-          subst (λ xs. LeadsTo (after_event s l) more.0 (record { place = q; steps = xs })) steps more.1,
-        ),
+        (grind arith),
         ap suc more.2,
       )
 
@@ -114,15 +86,7 @@ module _ (r : Rules) where
       let way = moves_course s is a.place a.way in
       let one = move_is a.place t i true a.answers in
       let l = one.0 in
-      let steps : t.steps ≡ a.place.steps ++ l.event ∷ [] = ap (λ x. x.steps) one.1.1 in (
-        way.0,
-        l,
-        (
-          record { place = a.place.place; course = way.1.0; leads = led_leads r a.place.place i l one.1.0; answers = sym one.1.2 },
-          ap (λ x. x.place) one.1.1,
-          steps ∙ ap (λ xs. xs ++ l.event ∷ []) way.1.1 ∙ append_assoc s.steps way.0 (l.event ∷ []),
-        ),
-      )
+      grind (arith, led_leads, append_assoc)
 
   long_behind : (xs ys : List Event) → length (xs ++ ys) + 1 ≡ length xs + length ys + 1
   long_behind xs ys = omega (arith, length-append {A = Event})

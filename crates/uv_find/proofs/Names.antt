@@ -1,5 +1,5 @@
 -- The names that proofs of this crate bring in.
-pub use Rattle.uv_alike.proofs.Names.{Change, Entry, LATEST, Timing, cancels, cancels_at, cancels_line, cancels_main, cancels_op, cancels_run, changed, changed_body, changed_callback, changed_entry, changed_event, changed_line, changed_main, changed_next, changed_op, changed_place, changed_stage, changed_walk, is_some, reads_clock}
+pub use Rattle.uv_alike.proofs.Names.{Change, Entry, LATEST, Timing, cancels, cancels_at, cancels_line, cancels_main, cancels_op, cancels_run, changed, changed_body, changed_callback, changed_entry, changed_event, changed_line, changed_main, changed_op, changed_place, changed_stage, changed_walk, is_some, reads_clock, next_map, state_map}
 pub use Rattle.uv_model.proofs.Names.{call_io, finish, line_of, tick, way}
 pub use Rattle.uv_order.proofs.Names.{AreDistinct, AreOpened, AtEntry, Behind, BehindClosing, Between, Body, Bool, Callback, CallbackLine, Callbacks, Calls, Cancel, Closing, Code, Collecting, Content, Done, DoneUnwoken, Due, Err, Event, Finish, Firing, Goes, HandleRecord, Id, Io, IsCallLine, IsReached, Lasting, Line, List, Loop, Main, MainOp, Mode, Moves, Named, Names, Next, None, OfLoop, Ok, Op, Open, Option, Order, Pending, Phase, Poll, Polled, Position, Program, Range, Refuses, Request, Result, Run, Section, Seen, Send, Site, Slot, Some, Stage, Standing, State, Take, Task, Tick, Timers, TimersOf, ToEnd, ToPending, ToTimers, Turn, Var, Walk, Walking, WatcherKind, Way, Why, [], after_op, and_parts, ap, append-nil, append_assoc, arena_size, arith, cond, count_of, drop, elements, eq-eqb, eqb-true, false, first_due, found_both, fresh, from_heap, front, front_request, goes, handle, handle_in, has_id, has_io, held, if◌then◌else◌, inl, inr, io_handle, io_run, is_for, is_open, is_timer, lasting, length, lines_in, list_any, live_handle, live_request, loop_lines, main_op, map, may_leave, named, names_by, nat_le, nat_lt, nat_tests, next_work, no_callbacks, none-some, not, nothing_told, op_at, option_and_then, option_map, or_right, order_of, refl, request, request_in, run_ids, same_Some, same_id, send_refusal, slice_get, slice_get_past, slice_get_within, slice_set, state_of, subst, suc, sym, takes_io, text_of, told_by, true, unbound, unwrap_or, watched, with_id, work_of, worker_count, zero, ℕ, ◌&&◌, ◌++◌, ◌+◌, ◌-◌, ◌<◌, ◌==◌, ◌||◌, ◌∙◌, ◌∷◌, ◌≡◌, ◌≤◌, ◌⊎◌}
 pub use Rattle.uv_script.proofs.ProofNames.{IsWhole, ap₂, callbacks_of, cases_order, common_steps, drop-cons, get_or, get_or_from_slice_get, is_none, length-append, length-map, list_all, lt-ltb, ltb-true, min, nat_eq, op_name, option_eq, same_callbacks, same_line, same_main, same_op, same_work, slice_get-map, take, true≢false, ◌^◌}

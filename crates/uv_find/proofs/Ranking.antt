@@ -103,10 +103,6 @@ rank_ordered (x ∷ xs) key = rank_with x (ordered xs) key ∙ ap (λ n. count_b
 id_itself : (a : Id) → id_le a a ≡ true
 id_itself a = grind arith
 
-later_by : (a g b h c i : ℕ) → (nat_lt a b || ((a == b) && nat_le g h)) ≡ true → (nat_lt a c || ((a == c) && nat_le g i)) ≡ false
-    → (nat_lt b c || ((b == c) && nat_le h i)) ≡ false
-later_by a g b h c i le less = grind (arith, nat_tests)
-
 -- of two one comes first
 total_by : (a g b h : ℕ) → (nat_lt a b || ((a == b) && nat_le g h)) ≡ false → (nat_lt b a || ((b == a) && nat_le h g)) ≡ true
 total_by a g b h less = grind (arith, nat_tests)
@@ -115,14 +111,11 @@ both_by : (a g b h : ℕ) → (nat_lt a b || ((a == b) && nat_le g h)) ≡ true 
 both_by a g b h le ge = (grind (arith, nat_tests), grind (arith, nat_tests))
 
 one_later : (x : Run) (m n : Id) → id_le m n ≡ true → count_before m x ≤ count_before n x
-one_later x m n le = grind (arith, later_by)
+one_later x m n le = grind (arith)
 
 -- a request isn't before itself, and it is before what it doesn't come behind
 not_before : (x : Run) (id : Id) → x ≡ Some id → count_before id x ≡ 0
 not_before x id same = ap (λ (y : Run). count_before id y) same ∙ ap (λ b. if◌then◌else◌ {A = ℕ} (not b) 1 0) (id_itself id)
-
-is_before : (x : Run) (id key : Id) → x ≡ Some id → id_le key id ≡ false → count_before key x ≡ 1
-is_before x id key same less = ap (λ (y : Run). count_before key y) same ∙ ap (λ b. if◌then◌else◌ {A = ℕ} (not b) 1 0) less
 
 sum_le : (a b c d : ℕ) → a ≤ b → c ≤ d → a + c ≤ b + d
 sum_le a b c d e f = omega (arith, e, f)
@@ -138,11 +131,9 @@ rank_later [] m n le = omega arith
 rank_later (x ∷ xs) m n le = search (sum_le, one_later, (rank_later xs m n le))
 
 rank_more : (xs : List Run) (j : ℕ) (id key : Id) → slice_get xs j ≡ Some (Some id) → id_le key id ≡ false → rank_in xs id < rank_in xs key
-rank_more (x ∷ xs) (suc j) id key there less =
-    sum_lt (count_before id x) (count_before key x) (rank_in xs id) (rank_in xs key)
-    (one_later x id key (total_by key.slot key.generation id.slot id.generation less)) (rank_more xs j id key there less)
+rank_more (x ∷ xs) (suc j) id key there less = search (sum_lt, one_later, total_by, (rank_more xs j id key there less))
 rank_more each e1 id key there less =
-    grind (arith, none-some, same_Some, one_lt, not_before, is_before, rank_later, total_by, sum_lt, one_later)
+    grind (arith, none-some, same_Some, one_lt, not_before, rank_later, total_by, sum_lt, one_later)
 
 -- requests of one rank come at one place
 pub rank_one : (xs : List Run) (i j : ℕ) (a b : Id) → slice_get xs i ≡ Some (Some a) → slice_get xs j ≡ Some (Some b) →
@@ -150,12 +141,8 @@ pub rank_one : (xs : List Run) (i j : ℕ) (a b : Id) → slice_get xs i ≡ Som
 rank_one xs i j a b at_a at_b same = by (id_le a b) (id_le b a) refl refl where
   by : (p q : Bool) → id_le a b ≡ p → id_le b a ≡ q → a ≡ b
   by true true le ge = grind (arith, both_by)
-  by true false le other =
-      let l = rank_more xs i a b at_a other in
-      absurd (omega (arith, l, same))
-  by false q other ge =
-      let l = rank_more xs j b a at_b other in
-      absurd (omega (arith, l, same))
+  by true false le other = grind (arith, rank_more)
+  by false q other ge = grind (arith, rank_more)
 
 -- a rank is one of as many as there are workers
 pub one_most : (key : Id) (x : Run) → count_before key x ≤ 1
@@ -168,16 +155,12 @@ pub rank_most : (xs : List Run) (key : Id) → rank_in xs key ≤ length xs
 rank_most [] key = omega arith
 rank_most (x ∷ xs) key = most_by (count_before key x) (rank_in xs key) (length xs) (one_most key x) (rank_most xs key)
 
-within_here : (a b c : ℕ) → a ≡ 0 → b ≤ c → a + b < suc c
-within_here a b c e f = omega (arith, e, f)
-
 within_more : (a b c : ℕ) → a ≤ 1 → b < c → a + b < suc c
 within_more a b c e f = omega (arith, e, f)
 
 pub rank_within : (xs : List Run) (j : ℕ) (id : Id) → slice_get xs j ≡ Some (Some id) → rank_in xs id < length xs
-rank_within (x ∷ xs) (suc j) id there =
-    within_more (count_before id x) (rank_in xs id) (length xs) (one_most id x) (rank_within xs j id there)
-rank_within each e1 id there = grind (arith, none-some, within_here, not_before, same_Some, rank_most, within_more, one_most)
+rank_within (x ∷ xs) (suc j) id there = search (within_more, length, one_most, (rank_within xs j id there))
+rank_within each e1 id there = grind (arith, none-some, not_before, same_Some, rank_most, within_more, one_most)
 
 pub equal_is : (m n : ℕ) → m ≡ n → (m == n) ≡ true
 equal_is m n e = grind (arith, nat_tests)

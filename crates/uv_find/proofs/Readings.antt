@@ -1,8 +1,7 @@
 -- What a search reads of a state is read off its tale.
-use Rattle.uv_find.proofs.Names.{◌≡◌, ℕ, ◌+◌, ◌-◌, ◌<◌, ◌≤◌, ◌==◌, Bool, true, false, List, [], ◌∷◌, Option, Some, None, nat_eq, nat_le, is_some, slice_get, refl, ap, ◌∙◌, arith, if◌then◌else◌, min, map, option_map, unwrap_or, slice_get-map, Id, Var, Callback, Named, Slot, is_timer, count_of, unbound, held, Program, is_for, Content, Main, Running, Stage, State, named, Retiming, retimed_content, retimed_stage, retimed_place, By, later, shift, capped_place, call_end, count_capped, Bound, Nothing, Gone, Told, Tale, Reads, Takes, takes_end, has_ended, is_over, is_timers_stage, is_in_timers, said_time, time_taken, or_time, is_quiet, is_behind_poll, is_closing, closes, deadline_in, deadline_at, is_in_poll, is_poll_stage, option_eq}
+use Rattle.uv_find.proofs.Names.{◌≡◌, ℕ, ◌+◌, ◌-◌, ◌≤◌, Bool, true, false, List, [], ◌∷◌, Option, Some, None, is_some, slice_get, refl, ap, ◌∙◌, arith, if◌then◌else◌, min, map, option_map, unwrap_or, slice_get-map, Id, Var, Callback, Named, Slot, is_timer, count_of, unbound, held, Program, Content, Stage, State, named, retimed_content, retimed_stage, retimed_place, By, later, shift, capped_place, count_capped, Bound, Nothing, Gone, Told, Tale, Reads, Takes, takes_end, has_ended, is_over, is_in_timers, said_time, time_taken, or_time, is_quiet, is_closing, closes, deadline_at, is_in_poll, is_poll_stage}
 use Rattle.uv_work.specs.declared.content.Content.TheVariants as content
 use Rattle.uv_model.specs.declared.place.Place.{Place}
-use Rattle.uv_model.specs.declared.place.Stage.TheVariants as stage
 use Rattle.uv_shift.proofs.Slots.{held_shift}
 use Rattle.uv_tale.specs.Tale.{Holds}
 use Rattle.uv_tale.proofs.Told.{name_now}
@@ -72,22 +71,10 @@ pub reads_count : {X : Type 0} (f : ℕ → X) (n : ℕ) → ((c : ℕ) → f (m
 reads_count f n same kind v = reads_name (λ s. f (count kind v s)) (λ t. f (count_of kind t.calls)) n v
     (λ s. ap f (count_capped n kind (named s v).calls) ∙ same (count kind v s)) (λ d s. refl)
 
-pub meant_capped : (call : Option ℕ) (n : ℕ) → call_end call ≤ n → (c : ℕ) → is_for (min c n) call ≡ is_for c call
-meant_capped call n below c = grind arith
-
-pub within_capped : (most n : ℕ) → most < n → (c : ℕ) → nat_le (min c n) most ≡ nat_le c most
-within_capped most n below c = grind arith
-
-pub none_capped : (n : ℕ) → 1 ≤ n → (c : ℕ) → (min c n == 0) ≡ (c == 0)
-none_capped n some c = grind arith
-
-said_capped : (call : Option ℕ) (n : ℕ) → call_end call ≤ n → (c : ℕ) → option_eq nat_eq call (Some (min c n)) ≡ option_eq nat_eq call (Some c)
-said_capped call n below c = grind arith
-
 said_time_capped : (takes : List Takes) (v : Var) (n : ℕ) → takes_end takes ≤ n → (c : ℕ) →
     said_time takes v (Some (min c n)) ≡ said_time takes v (Some c)
 said_time_capped [] v n below c = refl
-said_time_capped (t ∷ ts) v n below c = grind (arith, said_capped, (said_time_capped ts v n (omega (arith, below)) c))
+said_time_capped (t ∷ ts) v n below c = grind (arith, (said_time_capped ts v n (omega (arith, below)) c))
 
 pub taken_capped : (takes : List Takes) (v : Var) (n : ℕ) → takes_end takes ≤ n → (c : ℕ) → time_taken takes v (min c n) ≡ time_taken takes v c
 taken_capped takes v n below c = ap (λ o. or_time o (said_time takes v None)) (said_time_capped takes v n below c)
@@ -99,20 +86,13 @@ pub reads_place : {X : Type 0} (f : Place → X) (n : ℕ) → ((place : Place) 
     ((d : By) (place : Place) → f (retimed_place (later d) place) ≡ f place) → Reads n (λ s. f s.place)
 reads_place f n capped timed = record { told = λ t. f t.place; now = λ s. capped s.place; shifts = λ d s. timed d s.place }
 
-quiet_later : (r : Retiming) (x : Stage) → is_behind_poll (retimed_stage r x) ≡ is_behind_poll x
-quiet_later r x = grind arith
-
-timers_later : (r : Retiming) (x : Stage) → is_timers_stage (retimed_stage r x) ≡ is_timers_stage x
-timers_later r x = grind arith
-
 pub reads_quiet : (n : ℕ) → Reads n (λ s. is_quiet s.place)
 reads_quiet n = reads_place is_quiet n capped later_too where
   capped : (place : Place) → is_quiet (capped_place n place) ≡ is_quiet place
   capped place = grind arith
 
   later_too : (d : By) (place : Place) → is_quiet (retimed_place (later d) place) ≡ is_quiet place
-  later_too d (Main line) = refl
-  later_too d (Running run) = quiet_later (later d) run.stage
+  later_too d place = grind arith
 
 pub reads_timers : (n : ℕ) → Reads n (λ s. is_in_timers s.place)
 reads_timers n = reads_place is_in_timers n capped later_too where
@@ -120,8 +100,7 @@ reads_timers n = reads_place is_in_timers n capped later_too where
   capped place = grind arith
 
   later_too : (d : By) (place : Place) → is_in_timers (retimed_place (later d) place) ≡ is_in_timers place
-  later_too d (Main line) = refl
-  later_too d (Running run) = timers_later (later d) run.stage
+  later_too d place = grind arith
 
 pub reads_over : (n : ℕ) → Reads n (λ s. is_over s.place)
 reads_over n = reads_place is_over n capped later_too where
@@ -129,8 +108,7 @@ reads_over n = reads_place is_over n capped later_too where
   capped place = grind arith
 
   later_too : (d : By) (place : Place) → is_over (retimed_place (later d) place) ≡ is_over place
-  later_too d (Main line) = refl
-  later_too d (Running run) = refl
+  later_too d place = grind arith
 
 pub reads_ended : (n : ℕ) (p : Program) → Reads n (λ s. has_ended p s.place)
 reads_ended n p = reads_place (has_ended p) n capped later_too where
@@ -138,8 +116,7 @@ reads_ended n p = reads_place (has_ended p) n capped later_too where
   capped place = grind arith
 
   later_too : (d : By) (place : Place) → has_ended p (retimed_place (later d) place) ≡ has_ended p place
-  later_too d (Main line) = refl
-  later_too d (Running run) = refl
+  later_too d place = grind arith
 
 -- ---- the deadline of a poll
 
@@ -149,9 +126,6 @@ until clock deadline = option_map (λ d. d - clock) deadline
 
 abbrev pub wait_of : State → Option ℕ
 wait_of s = until s.clock (deadline_at s.place)
-
-stage_until : (clock : ℕ) (d : By) (x : Stage) → until (clock + d.ms) (deadline_in (retimed_stage (later d) x)) ≡ until clock (deadline_in x)
-stage_until clock d x = grind arith
 
 pub reads_wait : (n : ℕ) → Reads n wait_of
 reads_wait n = record {
@@ -164,8 +138,7 @@ reads_wait n = record {
 
   shifted : (clock : ℕ) (d : By) (place : Place) → until (clock + d.ms) (deadline_at (retimed_place (later d) place))
       ≡ until clock (deadline_at place)
-  shifted clock d (Main line) = refl
-  shifted clock d (Running run) = stage_until clock d run.stage
+  shifted clock d place = grind arith
 
 -- ---- the poll
 
@@ -175,12 +148,10 @@ reads_in_poll n = reads_place is_in_poll n capped later_too where
   capped place = grind arith
 
   stage_later : (d : By) (x : Stage) → is_poll_stage (retimed_stage (later d) x) ≡ is_poll_stage x
-  stage_later d (stage.Poll deadline) = refl
-  stage_later d x = refl
+  stage_later d x = grind arith
 
   later_too : (d : By) (place : Place) → is_in_poll (retimed_place (later d) place) ≡ is_in_poll place
-  later_too d (Main line) = refl
-  later_too d (Running run) = stage_later d run.stage
+  later_too d place = grind arith
 
 -- ---- when a timer is due
 

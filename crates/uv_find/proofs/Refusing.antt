@@ -49,12 +49,9 @@ none_ranked (Some n) s = refl
 
 has_none_led : (r : Rules) (p : Place) (xs : List Left) (offer : Offer) → has_none r.forget p.state offer ≡ true
     → led_by r p (chosen xs p.kept (ranked r.forget p.state (timed r.clock p.state.clock (event_of r.program p.state p.kept offer)))) ≡ None
-has_none_led r p xs (Step (event.Finish number)) e =
-    rw (finish_keeps r.clock p.state.clock number) (finish_none r p xs r.forget number e)
+has_none_led r p xs (Step (event.Finish number)) e = simp (finish_keeps, finish_none)
 has_none_led r p xs Wait e = simp (none_waits, none_ranked)
-has_none_led r p xs (WaitFor ms) e =
-    ap (λ o. led_by r p (chosen xs p.kept (ranked r.forget p.state (timed r.clock p.state.clock o)))) (none_lasts r.program p.state ms e)
-    ∙ ap (λ o. led_by r p (chosen xs p.kept o)) (none_ranked r.forget p.state)
+has_none_led r p xs (WaitFor ms) e = simp (none_lasts, none_ranked)
 has_none_led r p xs offer e = absurd (let f : ⊥ = cc e in f)
 
 -- so does no part of it

@@ -1,5 +1,5 @@
 -- What a search of spots says of orders.
-use Rattle.uv_find.proofs.Names.{◌≡◌, ℕ, suc, ◌+◌, ◌≤◌, ◌==◌, ◌&&◌, ◌||◌, not, length, length-append, ◌⊎◌, Option, Some, None, ap, true, false, Bool, is_some, if◌then◌else◌, inl, inr, List, [], ◌∷◌, ◌++◌, refl, sym, subst, ◌∙◌, arith, append-nil, Event, STEPS, after-nil, worker_count, are_at_will, is_empty, loop_number, owes, is_covered, Rules, Place, Led, move_count, Course, KeptCourse, AnswersBy, answers, place_answers, Spot, next_spot, spot_code, place_code, first_spot, is_few, is_told, holds_back, apart, covered, apart_by, is_loop_first, is_take_first, IsTold, MayForget, IsSpot, IsDeep, AllLead, OneLeads, AreClosed, AreReached, Finds, KeysTell, Has}
+use Rattle.uv_find.proofs.Names.{◌≡◌, ℕ, suc, ◌+◌, ◌≤◌, ◌&&◌, ◌||◌, not, length, length-append, ◌⊎◌, ap, true, false, Bool, is_some, if◌then◌else◌, inl, inr, List, [], ◌∷◌, ◌++◌, refl, sym, subst, ◌∙◌, arith, append-nil, Event, STEPS, after-nil, worker_count, is_empty, is_covered, Rules, Place, Led, move_count, Course, KeptCourse, AnswersBy, answers, place_answers, Spot, next_spot, spot_code, place_code, first_spot, is_few, is_told, holds_back, apart, covered, IsTold, MayForget, IsSpot, IsDeep, AllLead, OneLeads, AreClosed, AreReached, Finds, KeysTell, Has}
 use Rattle.std.specs.List.{IsDistinct}
 use Rattle.uv_search.specs.Settled as settled
 use Rattle.uv_find.specs.declared.finding.Answer.TheVariants as answer
@@ -44,8 +44,7 @@ module _ (r : Rules) (s : Spot) where
 
   kept_course : (keys : List (List ℕ)) (a : Spot) (is : List ℕ) (i : ℕ) (t : Spot) → LeadsTo r a is t → IsPassed keys a (is ++ i ∷ [])
       → (es : List Event) × (KeptCourse r keys a.place es t.place × Has keys (place_code r t.place))
-  kept_course keys a [] i t e passed =
-      ([], (ap (λ (x : Spot). x.place) e, subst (λ (x : Spot). Has keys (place_code r x.place)) (sym e) passed.0))
+  kept_course keys a [] i t e passed = grind arith
   kept_course keys a (j ∷ is) i t (m, b, offered, goes, rest) passed =
       let one = move_is r a m j b goes in
       let l = one.0 in
@@ -60,15 +59,7 @@ module _ (r : Rules) (s : Spot) where
   answers_by keys way t (is, i, whole, a) passed =
       let c = kept_course keys s is i a.place a.way (subst (λ w. IsPassed keys s w) whole passed) in
       let one = move_is r a.place t i true a.answers in
-      record {
-        events = c.0;
-        place = a.place.place;
-        course = c.1.0;
-        kept = c.1.1;
-        led = one.0;
-        leads = led_leads r a.place.place i one.0 one.1.0;
-        answers = sym one.1.2;
-      }
+      grind arith
 
   pub found_way : (limit : ℕ) (way : List ℕ) (number : ℕ) (t : Spot) → number ≤ limit → IsWay way t → (keys : List (List ℕ)) → AreKeys number keys
       → AnswersBy r s.place keys → Finds r s limit (answer.Found number) t
@@ -95,17 +86,7 @@ module _ (r : Rules) (s : Spot) where
   -- where moves aren't held back, none is apart
   holds_none : holds_back r ≡ false
       → settled.HoldsNone (λ (a : Spot). move_count r a.place) (next_spot r) (spot_code r) IsDeep (apart r) (covered r) (IsTold r) s
-  holds_none none is q k led = (
-    by (k == loop_number r.at_once),
-    covered_none r q.place (no_mates r.mates (neither_one r.at_once (not (is_empty r.mates)) (neither_one (is_some r.hold) _ none).1).1) k,
-  ) where
-    by : (b : Bool) → (if b then is_loop_first r q.place else ((k == 0) && is_take_first r q.place)) ≡ false
-    by true = loop_none r.hold (neither_one (is_some r.hold) _ none).0 where
-      loop_none : (o : Option Bool) → is_some o ≡ false → apart_by o r.program (loop_number r.at_once) q.place ≡ false
-      loop_none None e = refl
-      loop_none (Some ticks) e = absurd (let f : true ≡ false = e in cc)
-    by false = ap (λ b. (k == 0) && (b && (are_at_will (worker_count r.program + 2) q.place.left && not (owes q.place.kept))))
-        (neither_one r.at_once (not (is_empty r.mates)) (neither_one (is_some r.hold) _ none).1).0 ∙ neither (k == 0)
+  holds_none none is q k led = grind (arith, covered_none, no_mates, neither_one, not, is_some, worker_count, neither)
 
   mute : (number : ℕ) → IsNone number → (es : List Event) (l : Led) → is_told r (length s.steps + length es + 1) ≡ true
       → courses.Answers r s.place es l → ⊥

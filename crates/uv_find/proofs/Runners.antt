@@ -1,9 +1,9 @@
 -- Workers of two states of which the same is told: of each rank they run requests of one name.
-use Rattle.uv_find.proofs.Names.{◌≡◌, ℕ, zero, suc, ◌⊎◌, inl, inr, ◌<◌, List, [], ◌∷◌, true, false, length, is_none, slice_get, slice_set, refl, ap, sym, subst, ◌∙◌, Option, Some, None, Result, Ok, Err, map, option_map, eqb-true, length-map, length-replicate, none-some, same_Some, slice_get-map, Event, Loop, Take, Finish, Cancel, Send, Io, Tick, Why, Id, Program, worker_count, Request, goes_on, state_of, Next, Moves, Refuses, State, fresh, named, is_of_worker, ordered, name_in, has_at, IsRegular, found_alike, number_of, name_at, as_id, Tale, tale, take_by, key_at, keys_run, idle_worker, rank_in, rank_of, is_of_rank, runner, finish_by}
+use Rattle.uv_find.proofs.Names.{◌≡◌, ℕ, zero, suc, ◌⊎◌, inl, inr, ◌<◌, List, [], ◌∷◌, true, false, length, is_none, slice_get, slice_set, refl, ap, sym, subst, ◌∙◌, Option, Some, None, Result, Ok, Err, map, option_map, eqb-true, length-map, length-replicate, none-some, same_Some, slice_get-map, Event, Loop, Take, Finish, Cancel, Send, Io, Tick, Why, Id, Program, worker_count, Request, goes_on, state_of, Next, Moves, Refuses, State, fresh, named, is_of_worker, ordered, name_in, has_at, IsRegular, found_alike, number_of, name_at, as_id, Tale, tale, take_by, key_at, keys_run, idle_worker, rank_in, rank_of, is_of_rank, runner, finish_by, state_map}
 use Rattle.uv_model.specs.After.{after}
 use Rattle.uv_model.specs.Next as steps
 use Rattle.uv_model.specs.Next.{next}
-use Rattle.uv_workers.proofs.Frame.{put_next, next_same}
+use Rattle.uv_workers.proofs.Frame.{put, next_same}
 use Rattle.uv_find.proofs.Ranking.{Run, equal_is, first_at, first_some, rank_ordered, rank_one, rank_within, called, rank_by_name}
 
 -- ---- how many they are
@@ -26,7 +26,7 @@ finish_long s k (Ok t) = set_long s.running k None
 
 other_long : (p : Program) (s : State) (e : Event) → is_of_worker e ≡ false → workers_in (length s.running) (next p s e) ≡ length s.running
 other_long p s e other = ap (workers_in (length s.running)) (next_same s.running p s e other) ∙ put_long (next p s e) where
-  put_long : (x : Next) → workers_in (length s.running) (put_next s.running x) ≡ length s.running
+  put_long : (x : Next) → workers_in (length s.running) (state_map (put s.running) x) ≡ length s.running
   put_long (Moves a line) = refl
   put_long (Refuses why) = refl
 

@@ -1,9 +1,9 @@
 -- The orders of a script, and those of the script in which each request asks for the same work: they go by the same events.
-use Rattle.uv_find.proofs.Names.{if◌then◌else◌, ◌≡◌, ◌∙◌, ℕ, zero, suc, ◌+◌, ◌==◌, ◌&&◌, not, max, Bool, true, false, List, [], ◌∷◌, ◌++◌, length, nat_lt, is_none, slice_get, refl, ap, ap₂, sym, subst, Option, Some, None, inl, inr, arith, map, option_map, list_all, length-map, slice_get-map, Event, Loop, Finish, Send, Tick, Id, Seen, Site, held, Program, Callbacks, arena_size, op_at, op_name, CallbackLine, MainOp, Op, Content, STEPS, Next, Moves, Refuses, State, fresh, named, Main, Running, answers_code, held_mapped, all_end, call_end, lines_end, script_end, Asked, Offer, Offered, Question, Takes, Kept, Left, LeadsOn, Course, IsAnswer, NeverAnswered, LONGEST, are_aside, are_small_offers, are_small_takes, is_small_op, is_declared, forget_of, may_forget, most_end, takes_end, question_end, IsDeepest, are_clear_of_takes, asks_late, is_empty, is_no_cancel, may_take_at_once, due_in, due_else, due_under, kept_due, owed_after, is_poll, arrived, nearer, along_after, mates_in, each_op, of_callbacks, of_lines, of_main, Rules, Place, Choice, Led, beginning, is_quiet, chosen, closes, deadline_at, event_of, is_blocked, is_free, is_within, led, led_by, lessened, may_take, move_count, offered_by, brief, placed, reached, refused_as_blocked, spending, is_made, aim, step_of, taken, timed, wait_until, may_last, is_run, answers, answers_line, begun, has_ended, is_uncalled, line_answers, none_leads, place_answers, rank_in, is_of_rank, ranked, Spot, rules_of, first_spot, holds_back, is_few, same_op, same_line, same_main, same_callbacks, same_work}
+use Rattle.uv_find.proofs.Names.{if◌then◌else◌, ◌≡◌, ◌∙◌, ℕ, ◌+◌, ◌==◌, ◌&&◌, not, max, Bool, true, List, [], ◌∷◌, length, nat_lt, is_none, slice_get, refl, ap, ap₂, sym, subst, Option, Some, None, inl, inr, arith, map, option_map, list_all, length-map, slice_get-map, Event, Finish, Send, Id, Seen, Site, held, Program, Callbacks, arena_size, op_at, op_name, CallbackLine, MainOp, Op, Content, STEPS, Next, Moves, Refuses, State, fresh, named, answers_code, held_mapped, all_end, call_end, lines_end, script_end, Asked, Offer, Offered, Question, Takes, Kept, Left, LeadsOn, Course, IsAnswer, NeverAnswered, LONGEST, are_aside, are_small_offers, are_small_takes, is_small_op, is_declared, forget_of, may_forget, most_end, takes_end, question_end, IsDeepest, are_clear_of_takes, asks_late, is_empty, is_no_cancel, may_take_at_once, due_in, due_else, due_under, kept_due, owed_after, is_poll, mates_in, each_op, of_callbacks, of_lines, of_main, Rules, Place, Choice, Led, beginning, closes, event_of, is_blocked, is_free, is_within, led, led_by, may_take, offered_by, brief, placed, reached, spending, is_made, aim, step_of, taken, timed, is_run, answers, answers_line, begun, has_ended, none_leads, place_answers, rank_in, is_of_rank, ranked, Spot, rules_of, first_spot, holds_back, is_few, same_op, same_line, same_main, same_callbacks, same_work, next_map}
 use Rattle.uv_ids.specs.declared.seen.Site.TheVariants as site
 use Rattle.uv_model.specs.Next.{next}
 use Rattle.uv_model.specs.declared.place.Place as loop
-use Rattle.uv_tasks.specs.Tasks.{same_content, same_state, same_seen, same_next}
+use Rattle.uv_tasks.specs.Tasks.{same_content, same_state, same_seen}
 use Rattle.uv_tasks.proofs.Steps.{lines_same}
 use Rattle.uv_asking.specs.declared.asking.Offer.TheVariants as offers
 use Rattle.uv_asking.specs.declared.asking.Question.TheVariants as asks
@@ -82,7 +82,7 @@ line_same p q due s l = grind (arith, begun_same, code_same, site_same)
 
 -- a step of the script in which each request asks for the same work goes as it does
 abbrev pub StepsStand : Type 0
-StepsStand = (p : Program) (s : State) (e : Event) → next (same_work p) (same_state s) e ≡ same_next (next p s e)
+StepsStand = (p : Program) (s : State) (e : Event) → next (same_work p) (same_state s) e ≡ next_map same_state same_seen (next p s e)
 
 -- the rules of the script in which each request asks for the same work
 abbrev rules_with : Rules → List Bool → Rules
@@ -93,25 +93,17 @@ module _ (steps : StepsStand) (r : Rules) (mates : List Bool) (differ : r.differ
   same_rules = rules_with r mates
 
   blocked_same : (s : State) → is_blocked (same_work r.program) (same_state s) ≡ is_blocked r.program s
-  blocked_same s = ap refused_as_blocked (steps r.program s Loop) ∙ by (next r.program s Loop) where
-    by : (x : Next) → refused_as_blocked (same_next x) ≡ refused_as_blocked x
-    by x = grind arith
+  blocked_same s = grind arith
 
   free_same : (s : State) (k : Kept) (e : Event) → is_free (same_state s) k e ≡ is_free s k e
-  free_same s k (Send v) = ap (λ b. not (is_quiet s.place) && not b) (closes_same s (named s v).id)
-  free_same s k e = refl
+  free_same s k e = grind (arith, not, closes_same, named)
 
   step_same : (s : State) (k : Kept) (e : Event) → step_of (same_state s) k e ≡ step_of s k e
   step_same s k e = ap (λ b. if is_made s (aim e) && b then Some (spending k e) else None) (free_same s k e)
 
   event_same : (s : State) (k : Kept) (offer : Offer) → event_of (same_work r.program) (same_state s) k offer ≡ event_of r.program s k offer
-  event_same s k (offers.Step e) = step_same s k e
   event_same s k (offers.SendDuring v job) = ap (λ o. if is_run s (named s job).id then o else None) (step_same s k (Send v))
-  event_same s k offers.Take = refl
-  event_same s k offers.Wait = by (deadline_at s.place) where
-    by : (o : Option ℕ) → wait_until (same_work r.program) (same_state s) o ≡ wait_until r.program s o
-    by o = grind (arith, blocked_same s)
-  event_same s k (offers.WaitFor ms) = ap (λ b. if may_last s ms then (if b then Some (Tick ms) else None) else None) (blocked_same s)
+  event_same s k each = grind (arith, step_same, named, same_work, blocked_same)
 
   offered_same : (q : Place) (o : Option Offered) (x : Option Left) → offered_by same_rules (same_place q) o x ≡ offered_by r q o x
   offered_same q None x = refl
@@ -123,33 +115,21 @@ module _ (steps : StepsStand) (r : Rules) (mates : List Bool) (differ : r.differ
       (ranked_same r.forget q.state (if may_take x then timed r.clock q.state.clock (event_of r.program q.state q.kept o.offer) else None))
 
   choice_same : (q : Place) (number : ℕ) → choice_at same_rules (same_place q) number ≡ choice_at r q number
-  choice_same q number =
-      choice_is same_rules differ (same_place q) number
-      ∙ ap (λ e. chosen (lessened q.left number) q.kept (if nat_lt number (move_count r q) then e else None))
-      (offered_same q (slice_get r.offers number) (slice_get q.left number))
-      ∙ sym (choice_is r differ q number)
+  choice_same q number = simp (choice_is, nat_lt, offered_same, slice_get)
 
   taken_same : (c : Choice) (t : State) (line : Option Seen)
       → taken same_rules c (same_state t) (option_map same_seen line) ≡ same_place (taken r c t line)
-  taken_same c t line =
-      let due = due_same r.question t c.kept.due in
-      let owed = line_owes r.takes c.kept.owed t line in
-      let along = by c.event in
-      λ i. record { state = same_state t; left = c.left; kept = record { due = due i; owed = owed i; along = along i } }
-    where
-      by : (e : Event) → along_after r.recorded c.kept.along e (option_map same_seen line) ≡ along_after r.recorded c.kept.along e line
-      by Loop = ap (λ b. arrived r.recorded (nearer c.kept.along b)) (poll_same line)
-      by e = refl
+  taken_same c t line = grind (arith, due_same, line_owes, option_map, poll_same)
 
   led_same : (q : Place) (number : ℕ) → led same_rules (same_place q) number ≡ option_map same_led (led r q number)
   led_same q number = ap (led_by same_rules (same_place q)) (choice_same q number) ∙ by (choice_at r q number) where
     within : (c : Choice) (t : State) (line : Option Seen) (b : Bool)
         → placed same_rules c (if◌then◌else◌ {A = Option (State × Option Seen)} b (Some (same_state t, option_map same_seen line)) None)
         ≡ option_map same_led (placed r c (if◌then◌else◌ {A = Option (State × Option Seen)} b (Some (t, line)) None))
-    within c t line true = λ i. Some (record { event = c.event; place = taken_same c t line i; line = option_map same_seen line })
-    within c t line false = refl
+    within c t line b = grind (arith, taken_same, option_map)
 
-    goes : (c : Choice) (x : Next) → placed same_rules c (reached r.most (same_next x)) ≡ option_map same_led (placed r c (reached r.most x))
+    goes : (c : Choice) (x : Next) → placed same_rules c (reached r.most (next_map same_state same_seen x))
+        ≡ option_map same_led (placed r c (reached r.most x))
     goes c (Moves t line) = within c t line (is_within r.most t)
     goes c (Refuses why) = refl
 
@@ -160,41 +140,21 @@ module _ (steps : StepsStand) (r : Rules) (mates : List Bool) (differ : r.differ
   -- ---- what answers
 
   none_same : (q : Place) (count : ℕ) → none_leads same_rules (same_place q) count ≡ none_leads r q count
-  none_same q zero = refl
-  none_same q (suc n) = ap₂ (λ x y. x && y) (none_same q n) (ap is_none (led_same q n) ∙ by (led r q n)) where
-    by : (o : Option Led) → is_none (option_map same_led o) ≡ is_none o
-    by o = grind arith
+  none_same q count = grind (arith, ap₂, is_none, led_same, option_map)
 
   ended_same : (place : loop.Place) → has_ended (same_work r.program) place ≡ has_ended r.program place
-  ended_same (Main line) = ap is_none (main_same r.program line) ∙ by (slice_get r.program.main line) where
-    by : (o : Option MainOp) → is_none (option_map same_main o) ≡ is_none o
-    by o = grind arith
-  ended_same (Running run) = refl
+  ended_same place = grind (arith, is_none, main_same, slice_get, option_map, same_main)
 
   place_same : (q : Place) (ask : Question) → place_answers same_rules (same_place q) ask ≡ place_answers r q ask
-  place_same q (asks.Never name) = ap (λ b. b && is_uncalled q.state name) (ended_same q.state.place)
-  place_same q asks.Stuck = ap₂ (λ x y. x && y) (blocked_same q.state) (none_same q (move_count r q))
-  place_same q ask = refl
+  place_same q ask = grind (arith, ended_same, ap₂, blocked_same, none_same)
 
   answers_same : (q : Place) (l : Led) → answers same_rules (same_place q) (same_led l) ≡ answers r q l
-  answers_same q l = ap₂ (λ x y. if x then true else y) (by l.line) (place_same l.place r.question) where
-    by : (line : Option Seen) → line_answers (same_work r.program) r.question q.kept.due (same_state l.place.state) (option_map same_seen line)
-        ≡ line_answers r.program r.question q.kept.due l.place.state line
-    by None = refl
-    by (Some line) = line_same r.program r.question q.kept.due l.place.state line
+  answers_same q l = grind (arith, ap₂, place_same, same_work, option_map, line_same)
 
   -- ---- there
 
   leads_there : (q : Place) (l : Led) → LeadsOn r q l → LeadsOn same_rules (same_place q) (same_led l)
-  leads_there q l on = record {
-    number = on.number;
-    choice = on.choice;
-    offered = choice_same q on.number ∙ on.offered;
-    event = on.event;
-    accepted = steps r.program q.state l.event ∙ ap same_next on.accepted;
-    within = on.within;
-    taken = ap same_place on.taken ∙ sym (taken_same on.choice l.place.state l.line);
-  }
+  leads_there q l on = grind (arith, choice_same, taken, taken_same)
 
   course_there : (q t : Place) (es : List Event) → Course r q es t → Course same_rules (same_place q) es (same_place t)
   course_there q t [] same = ap same_place same
@@ -205,12 +165,8 @@ module _ (steps : StepsStand) (r : Rules) (mates : List Bool) (differ : r.differ
   never_here held s (here, behind) = (
     sym (place_same s.place r.question) ∙ here,
     λ es l told answer. behind es (same_led l)
-        (ap (λ b. is_few r.forget (if b then told_steps s es + STEPS + 1 else told_steps s es)) held ∙ told) (record {
-          place = same_place answer.place;
-          course = course_there s.place answer.place es answer.course;
-          leads = leads_there answer.place l answer.leads;
-          answers = answers_same answer.place l ∙ answer.answers;
-        }),
+        (ap (λ b. is_few r.forget (if b then told_steps s es + STEPS + 1 else told_steps s es)) held ∙ told)
+        (search (course_there, leads_there, answers_same)),
   )
 
   -- ---- and back
@@ -222,7 +178,7 @@ module _ (steps : StepsStand) (r : Rules) (mates : List Bool) (differ : r.differ
 
   leads_back : (q : Place) (m : Led) → LeadsOn same_rules (same_place q) m → Back q m
   leads_back q m on = by (next r.program q.state m.event) refl (sym (steps r.program q.state m.event) ∙ on.accepted) where
-    by : (x : Next) → next r.program q.state m.event ≡ x → same_next x ≡ Moves m.place.state m.line → Back q m
+    by : (x : Next) → next r.program q.state m.event ≡ x → next_map same_state same_seen x ≡ Moves m.place.state m.line → Back q m
     by (Refuses why) goes e = absurd (let f : ⊥ = cc in f)
     by (Moves t line) goes e =
         let state : same_state t ≡ m.place.state = cc in
@@ -258,18 +214,7 @@ module _ (steps : StepsStand) (r : Rules) (mates : List Bool) (differ : r.differ
       let back = leads_back to.0 m (subst (λ x. LeadsOn same_rules x m) to.1 answer.leads) in
       let l = back.led_here in (
         l.place,
-        inl (
-          before,
-          l,
-          are ∙ ap (λ (x : Led). before ++ x.event ∷ []) back.is,
-          record {
-            place = to.0;
-            course = to.2;
-            leads = back.leads;
-            answers = sym (answers_same to.0 l) ∙ sym (ap₂ (answers same_rules) to.1 back.is) ∙ answer.answers;
-          },
-          refl,
-        ),
+        inl (grind (arith, answers_same, ap₂)),
       )
   answer_back q es t (inr (none, here, says)) = (q, inr (none, refl, sym (place_same q r.question) ∙ says))
 

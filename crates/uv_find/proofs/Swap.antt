@@ -37,15 +37,11 @@ swap_long zero = refl
 swap_long (suc a) = let rest = swap_long a in omega (arith, rest, length-map (swap a) suc)
 
 swap_once : (a n : ℕ) → n < a + 2 → times (swap a) n ≡ 1
-swap_once (suc a) (suc n) below =
-    ap (λ b. if b then suc (times (map suc (swap a)) (suc n)) else times (map suc (swap a)) (suc n)) (zero_no n)
-    ∙ times_suc (swap a) n ∙ swap_once a n (omega (arith, below))
+swap_once (suc a) (suc n) below = simp (suc, times, map, zero_no, times_suc, (swap_once a n (omega (arith, below))))
 swap_once each e1 below = grind (arith, times_zero, zero_no, times_suc)
 
 swap_no_other : (a n : ℕ) → a + 2 ≤ n → times (swap a) n ≡ 0
-swap_no_other (suc a) (suc n) past =
-    ap (λ b. if b then suc (times (map suc (swap a)) (suc n)) else times (map suc (swap a)) (suc n)) (zero_no n)
-    ∙ times_suc (swap a) n ∙ swap_no_other a n (omega (arith, past))
+swap_no_other (suc a) (suc n) past = simp (suc, times, map, zero_no, times_suc, (swap_no_other a n (omega (arith, past))))
 swap_no_other each e1 past = grind arith
 
 pub swap_order : (a : ℕ) → IsOrder (swap a)
@@ -81,8 +77,7 @@ second_goes (suc a) =
     ap (place_of (swap (suc a))) one ∙ goes_suc a (a + 1) ∙ ap suc more
 
 pub other_stays : (a n : ℕ) → (n ≡ a → ⊥) → (n ≡ a + 1 → ⊥) → place_of (swap a) n ≡ n
-other_stays (suc a) (suc n) first second =
-    goes_suc a n ∙ ap suc (other_stays a n (λ e. first (ap suc e)) (λ e. second (omega (arith, e))))
+other_stays (suc a) (suc n) first second = simp (goes_suc, suc, (other_stays a n (λ e. first (ap suc e)) (λ e. second (omega (arith, e)))))
 other_stays each e1 first second = grind arith
 
 -- there and back

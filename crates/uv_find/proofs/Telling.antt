@@ -1,6 +1,5 @@
 -- The key of a place tells all of it that decides what comes after.
-use Rattle.uv_find.proofs.Names.{◌≡◌, ℕ, List, [], ◌∷◌, ◌++◌, length, refl, sym, ap, ap₂, subst, ◌∙◌, append_assoc, arith, Rules, Along, Left, Spot, told, kind_code, event_code, each_code, left_code, along_code, kept_code, spot_code, IsSpot, number_code, numbers_tell}
-use Rattle.uv_state_key.specs.Told.{IsTold}
+use Rattle.uv_find.proofs.Names.{◌≡◌, ℕ, List, [], ◌∷◌, ◌++◌, length, refl, sym, ap, ap₂, ◌∙◌, append_assoc, arith, Rules, Along, Left, Spot, told, kind_code, event_code, each_code, along_code, kept_code, spot_code, IsSpot, number_code, numbers_tell}
 use Rattle.uv_state_key.proofs.States.{after_told}
 use Rattle.uv_state_key.proofs.FormsTell.{forms_tell}
 
@@ -23,9 +22,6 @@ each_tells (a ∷ as1) (b ∷ bs) x y s e =
     parted : (n : ℕ) (code rest x : List ℕ) → ((number_code n ++ code) ++ rest) ++ x ≡ number_code n ++ (code ++ (rest ++ x))
     parted n code rest x = append_assoc (number_code n ++ code) rest x ∙ append_assoc (number_code n) code (rest ++ x)
 
-lefts_tell : (a b : List Left) (x y : List ℕ) → left_code a ++ x ≡ left_code b ++ y → (a ≡ b) × (x ≡ y)
-lefts_tell a b x y e = grind (arith, numbers_tell, append_assoc, each_tells)
-
 along_tells : (a b : Along) → along_code a ≡ along_code b → a ≡ b
 along_tells a b e =
     let next = numbers_tell a.next b.next (number_code a.polls ++ (number_code a.steps ++ number_code a.spare))
@@ -44,9 +40,6 @@ kept_tells d e owed other a b same =
     let still = numbers_tell owed other (along_code a) (along_code b) early.1 in
     ((λ i. (late.0 i, early.0 i)), still.0, along_tells a b still.1)
 
-told_in : (r : Rules) (s : Spot) → IsSpot r s → IsTold s.place.state
-told_in r s is = subst IsTold (sym is.state) (after_told r.program s.steps)
-
 -- a place is told by its key
 pub places_tell : (r : Rules) (s t : Spot) → IsSpot r s → IsSpot r t → spot_code r s ≡ spot_code r t → told r s.place ≡ told r t.place
-places_tell r s t is js e = grind (arith, told, append_assoc, forms_tell, told_in, lefts_tell, kept_tells)
+places_tell r s t is js e = grind (arith, told, append_assoc, forms_tell, after_told, numbers_tell, append_assoc, each_tells, kept_tells)

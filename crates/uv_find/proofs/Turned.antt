@@ -1,6 +1,5 @@
 -- What is offered where one name and the next one have changed places: the same events, those of workers by other ranks.
-use Rattle.uv_find.proofs.Names.{◌≡◌, ℕ, zero, suc, ◌+◌, ◌-◌, ◌≤◌, ◌&&◌, not, Bool, true, false, List, [], ◌∷◌, length, drop, slice_get, is_some, if◌then◌else◌, refl, ap, ap₂, sym, subst, ◌∙◌, Option, Some, None, arith, map, option_map, list_all, and_parts, Event, Loop, Take, Finish, Cancel, Send, Io, Tick, Id, Var, Callback, Op, MainOp, Program, lines_in, Named, held, Content, line_of, Next, Moves, Refuses, State, named, Main, changed_callback, changed_event, changed_main, changed_op, changed_place, moved_var, moved_content, by_names, Offer, Offered, Kept, Left, owes, offer_spares, main_spares, is_beside, spares, of_main, Rules, aim, is_made, is_free, spending, step_of, is_blocked, refused_as_blocked, deadline_at, wait_until, take_by, may_last, ends_within, is_in_poll, wait_for, is_quiet, is_closing, closes, event_of, timed, brief, offered_by, may_take, idle_worker, ranked, AreMates}
-use Rattle.uv_work.specs.declared.content.Content.TheVariants as content
+use Rattle.uv_find.proofs.Names.{◌≡◌, ℕ, zero, suc, ◌+◌, ◌≤◌, ◌&&◌, not, Bool, true, List, [], ◌∷◌, length, drop, slice_get, is_some, if◌then◌else◌, refl, ap, ap₂, ◌∙◌, Option, Some, None, arith, map, option_map, list_all, and_parts, Event, Loop, Take, Finish, Cancel, Send, Io, Tick, Id, Var, Callback, MainOp, Program, lines_in, Named, held, Content, line_of, Next, State, named, changed_callback, changed_event, changed_main, changed_place, moved_var, moved_content, by_names, Offer, Offered, Kept, Left, offer_spares, main_spares, is_beside, spares, of_main, Rules, aim, is_made, is_free, spending, step_of, is_blocked, refused_as_blocked, deadline_at, wait_until, may_last, ends_within, wait_for, is_quiet, is_closing, closes, event_of, timed, brief, offered_by, ranked, AreMates}
 use Rattle.uv_model.specs.Next.{next}
 use Rattle.uv_model.specs.declared.place.Place as loop
 use Rattle.uv_slots.specs.Alike as slots
@@ -12,11 +11,8 @@ use Rattle.uv_find.proofs.Twins.{beside_stays, beside_var}
 
 -- ---- the script says the same
 
-op_same : (a : ℕ) (o : Op) → spares a o ≡ true → changed_op (by_names (swap a)) o ≡ o
-op_same a o e = grind (arith, (beside_var a))
-
 main_same : (a : ℕ) (m : MainOp) → of_main (spares a) m ≡ true → changed_main (by_names (swap a)) m ≡ m
-main_same a m e = grind (arith, op_same)
+main_same a m e = grind (arith, beside_var)
 
 all_behind : {X : Type 0} (f : X → Bool) (xs : List X) (k : ℕ) (x : X) → list_all f (drop k xs) ≡ true → slice_get xs k ≡ Some x → f x ≡ true
 all_behind f (y ∷ ys) (suc k) x e at = all_behind f ys k x e at
@@ -31,8 +27,7 @@ all_further f (x ∷ xs) zero zero l e = e
 all_further f (x ∷ xs) zero (suc m) l e = all_further f xs 0 m (omega arith) (from_all xs (and_parts (f x) (list_all f xs) e).1)
   where
     from_all : (ys : List _) → list_all f ys ≡ true → list_all f (drop 0 ys) ≡ true
-    from_all [] e = e
-    from_all (y ∷ ys) e = e
+    from_all ys e = assumption
 all_further f (x ∷ xs) (suc k) zero l e = absurd (omega (arith, l))
 all_further f (x ∷ xs) (suc k) (suc m) l e = all_further f xs k m (omega (arith, l)) e
 
@@ -46,40 +41,22 @@ module _ (r : Rules) (a : ℕ) (mates : AreMates r a) where
 
   -- where no line that is ahead of the main program names either, the names are alike
   pub are_alike : (s : State) → a + 2 ≤ length s.names → main_spares a r.program s.place ≡ true → slots.AreAlike r.program (swap a) s
-  are_alike s wide clear = record {
-    order = swap_order a;
-    within = (let long = swap_length a in omega (arith, wide, long));
-    lines = lines_moved;
-    main = λ line at. main_there line at (slice_get r.program.main line) refl;
-  }
-    where
-      main_there : (line : ℕ) → s.place ≡ Main line → (o : Option MainOp) → slice_get r.program.main line ≡ o
-          → o ≡ option_map (changed_main (by_names (swap a))) o
-      main_there line at None e = refl
-      main_there line at (Some m) e =
-          let ahead : list_all (of_main (spares a)) (drop line r.program.main) ≡ true =
-          subst (λ q. list_all (of_main (spares a)) (drop (line_of q) r.program.main) ≡ true) at clear in
-          ap Some (sym (main_same a m (all_behind (of_main (spares a)) r.program.main line m ahead e)))
+  are_alike s wide clear =
+      grind (arith, swap_order, swap_length, lines_moved, slice_get, option_map, changed_main, list_all, drop, line_of, main_same, all_behind)
 
 -- ---- what a search reads
 
 quiet_same : (a : ℕ) (q : loop.Place) → is_quiet (changed_place (by_names (swap a)) q) ≡ is_quiet q
 quiet_same a q = grind arith
 
-in_poll_same : (a : ℕ) (q : loop.Place) → is_in_poll (changed_place (by_names (swap a)) q) ≡ is_in_poll q
-in_poll_same a q = grind arith
-
 deadline_same : (a : ℕ) (q : loop.Place) → deadline_at (changed_place (by_names (swap a)) q) ≡ deadline_at q
 deadline_same a q = grind arith
 
 closing_same : (a : ℕ) (c : Option Content) → is_closing (option_map (moved_content (swap a)) c) ≡ is_closing c
-closing_same a None = refl
-closing_same a (Some (content.Handle h)) = refl
-closing_same a (Some (content.Request r)) = refl
+closing_same a c = grind arith
 
 closes_same : (a : ℕ) (s : State) (o : Option Id) → closes (mirrored a s) o ≡ closes s o
-closes_same a s None = refl
-closes_same a s (Some id) = ap is_closing (held_mirrored a s id) ∙ closing_same a (held s.arena.slots id)
+closes_same a s o = grind (arith, held_mirrored, closing_same, held)
 
 -- an event that isn't a worker's finish, and names neither
 abbrev pub IsPlain : ℕ → Option Event → Type 0
@@ -88,13 +65,7 @@ IsPlain a (Some (Finish k)) = ⊥
 IsPlain a (Some e) = changed_event (by_names (swap a)) e ≡ e
 
 pub plain_stays : (a : ℕ) (e : Event) → IsPlain a (Some e) → changed_event (by_names (swap a)) e ≡ e
-plain_stays a Loop is = refl
-plain_stays a (Take k) is = refl
-plain_stays a (Finish k) is = refl
-plain_stays a (Cancel v) is = is
-plain_stays a (Send v) is = is
-plain_stays a (Io v) is = is
-plain_stays a (Tick ms) is = refl
+plain_stays a e is = grind arith
 
 ranked_plain : (f : Option ℕ) (s : State) (a : ℕ) (o : Option Event) → IsPlain a o → ranked f s o ≡ o
 ranked_plain each s a e3 is = grind arith
@@ -120,16 +91,14 @@ module _ (change : NamesChange) (r : Rules) (a : ℕ) (mates : AreMates r a) (s 
   m = mirrored a s
 
   blocked_next : (x : Next) → refused_as_blocked (mirrored_next r.program a x) ≡ refused_as_blocked x
-  blocked_next (Moves t line) = refl
-  blocked_next (Refuses why) = refl
+  blocked_next x = grind arith
 
   pub blocked_same : is_blocked r.program m ≡ is_blocked r.program s
   blocked_same =
       ap refused_as_blocked (next_mirrored a change r.program s Loop (are_alike r a mates s wide clear)) ∙ blocked_next (next r.program s Loop)
 
   made_same : (o : Option Var) → is_beside a o ≡ true → is_made m o ≡ is_made s o
-  made_same None e = refl
-  made_same (Some v) e = ap (λ (n : Named). is_some n.id) (named_same a s wide v (beside_stays a v e))
+  made_same o e = grind (arith, is_some, named_same, beside_stays)
 
   free_same : (e : Event) → is_beside a (aim e) ≡ true → is_free m k e ≡ is_free s k e
   free_same (Send v) e =
@@ -146,13 +115,10 @@ module _ (change : NamesChange) (r : Rules) (a : ℕ) (mates : AreMates r a) (s 
   step_same e beside = ap₂ (λ x y. if x && y then Some (spending k e) else None) (made_same (aim e) beside) (free_same e beside)
 
   wait_same : wait_until r.program m (deadline_at m.place) ≡ wait_until r.program s (deadline_at s.place)
-  wait_same = ap (wait_until r.program m) (deadline_same a s.place) ∙ by (deadline_at s.place) where
-    by : (o : Option ℕ) → wait_until r.program m o ≡ wait_until r.program s o
-    by None = refl
-    by (Some deadline) = ap (λ b. if b then Some (Tick (deadline - s.clock)) else None) blocked_same
+  wait_same = grind (arith, deadline_same, blocked_same)
 
   lasts_same : (ms : ℕ) → may_last m ms ≡ may_last s ms
-  lasts_same ms = ap₂ (λ x o. x && ends_within o s.clock ms) (in_poll_same a s.place) (deadline_same a s.place)
+  lasts_same ms = ap₂ (λ x o. x && ends_within o s.clock ms) (grind arith) (deadline_same a s.place)
 
   wait_for_same : (ms : ℕ) → wait_for r.program m ms ≡ wait_for r.program s ms
   wait_for_same ms = ap₂ (λ x y. if x then (if y then Some (Tick ms) else None) else None) (lasts_same ms) blocked_same
@@ -171,53 +137,15 @@ module _ (change : NamesChange) (r : Rules) (a : ℕ) (mates : AreMates r a) (s 
   event_same (offers.WaitFor ms) free e = wait_for_same ms
 
   event_plain : (offer : Offer) → IsFree offer → offer_spares a offer ≡ true → IsPlain a (event_of r.program s k offer)
-  event_plain (offers.Step Loop) free e = if_plain a (is_made s None && is_free s k Loop) (spending k Loop) (by (owes k)) where
-    by : (b : Bool) → IsPlain a (Some (if b then Tick k.owed else Loop))
-    by true = refl
-    by false = refl
-  event_plain (offers.Step (Take w)) free e = refl
-  event_plain (offers.Step (Finish w)) free e = absurd free
-  event_plain (offers.Step (Cancel v)) free e =
-      if_plain a (is_made s (Some v) && is_free s k (Cancel v)) (Cancel v) (ap Cancel (beside_var a v e))
   event_plain (offers.Step (Send v)) free e = if_plain a (is_made s (Some v) && is_free s k (Send v)) (Send v) (ap Send (beside_var a v e))
-  event_plain (offers.Step (Io v)) free e = if_plain a (is_made s (Some v) && is_free s k (Io v)) (Io v) (ap Io (beside_var a v e))
-  event_plain (offers.Step (Tick ms)) free e = if_plain a (is_made s None && is_free s k (Tick ms)) (Tick ms) refl
-  event_plain (offers.SendDuring v job) free e = absurd free
-  event_plain offers.Take free e = by (idle_worker s) where
-    by : (o : Option ℕ) → IsPlain a (take_by o)
-    by None = tt
-    by (Some w) = refl
-  event_plain offers.Wait free e = by (deadline_at s.place) where
-    by : (o : Option ℕ) → IsPlain a (wait_until r.program s o)
-    by None = tt
-    by (Some deadline) = if_plain a (is_blocked r.program s) (Tick (deadline - s.clock)) refl
-  event_plain (offers.WaitFor ms) free e = by (may_last s ms) (is_blocked r.program s) where
-    by : (x y : Bool) → IsPlain a (if x then (if y then Some (Tick ms) else None) else None)
-    by true true = refl
-    by true false = tt
-    by false y = tt
+  event_plain each free e = grind (arith, if_plain, beside_var)
 
   -- such an offer is the same event, and names neither
   pub offered_same : (xs : List Left) (o : Offered) (x : Option Left) → IsFree o.offer → offer_spares a o.offer ≡ true
       → offered_by r (record { state = m; left = xs; kept = k }) (Some o) x ≡ offered_by r (record { state = s; left = xs; kept = k }) (Some o) x
-  offered_same xs o None free e = refl
-  offered_same xs o (Some x) free e = by (may_take x) where
-    by : (b : Bool) → brief r.forget (ranked r.forget m (if b then timed r.clock s.clock (event_of r.program m k o.offer) else None))
-        ≡ brief r.forget (ranked r.forget s (if b then timed r.clock s.clock (event_of r.program s k o.offer) else None))
-    by true =
-        let plain = timed_plain r.clock s.clock a (event_of r.program s k o.offer) (event_plain o.offer free e) in
-        ap (λ y. brief r.forget (ranked r.forget m (timed r.clock s.clock y))) (event_same o.offer free e)
-        ∙ ap (brief r.forget) (ranked_plain r.forget m a (timed r.clock s.clock (event_of r.program s k o.offer)) plain
-        ∙ sym (ranked_plain r.forget s a (timed r.clock s.clock (event_of r.program s k o.offer)) plain))
-    by false = ap (brief r.forget) (ranked_plain r.forget m a None tt ∙ sym (ranked_plain r.forget s a None tt))
+  offered_same xs o x free e = grind (arith, timed, timed_plain, event_plain, event_same, ranked_plain)
 
   pub offered_plain : (xs : List Left) (o : Offered) (x : Option Left) → IsFree o.offer → offer_spares a o.offer ≡ true
       → IsPlain a (offered_by r (record { state = s; left = xs; kept = k }) (Some o) x)
   offered_plain xs o None free e = tt
-  offered_plain xs o (Some x) free e = by (may_take x) where
-    by : (b : Bool) → IsPlain a (brief r.forget (ranked r.forget s (if b then timed r.clock s.clock (event_of r.program s k o.offer) else None)))
-    by true =
-        let plain = timed_plain r.clock s.clock a (event_of r.program s k o.offer) (event_plain o.offer free e) in
-        brief_plain r.forget a (ranked r.forget s (timed r.clock s.clock (event_of r.program s k o.offer)))
-        (subst (IsPlain a) (sym (ranked_plain r.forget s a (timed r.clock s.clock (event_of r.program s k o.offer)) plain)) plain)
-    by false = brief_plain r.forget a (ranked r.forget s None) (subst (IsPlain a) (sym (ranked_plain r.forget s a None tt)) tt)
+  offered_plain xs o (Some x) free e = grind (arith, timed, timed_plain, event_plain, brief_plain, ranked_plain)

@@ -1,5 +1,5 @@
 -- Where workers run two requests that are alike, the same is told of the state as of that in which their names have changed places.
-use Rattle.uv_find.proofs.Names.{◌≡◌, ℕ, zero, suc, ◌+◌, ◌<◌, ◌≤◌, ◌==◌, ◌||◌, Bool, true, false, List, [], ◌∷◌, ◌++◌, length, slice_get, refl, ap, ap₂, sym, subst, ◌∙◌, Option, Some, None, arith, map, min, option_map, unwrap_or, or_right, length-map, none-some, same_Some, slice_get-map, Id, Var, Program, HandleRecord, WatcherKind, Named, Slot, held, Walk, Content, Request, handle_in, request_in, Body, Stage, State, named, handle, request, watched, has_id, AreDistinct, run_ids, IsReached, By, base, earlier, or_first, or_over, least_start, retimed_place, capped_calls, capped_place, changed_body, changed_place, changed_stage, moved_var, moved_content, moved_slot, by_names, place_of, name_in, Fits, get_arranged, with_run, ordered, swapped, has_at, IsRegular, Told, as_id, bound_by, bound_to, name_at, names_at, number_of, numbers_at, runs_at, tale, tale_by, told_name, walk_at, is_beside, body_spares, place_spares, Open, is_open, same_id}
+use Rattle.uv_find.proofs.Names.{◌≡◌, ℕ, zero, suc, ◌+◌, ◌<◌, ◌≤◌, ◌==◌, ◌||◌, Bool, true, false, List, [], ◌∷◌, ◌++◌, length, slice_get, refl, ap, ap₂, sym, subst, ◌∙◌, Option, Some, None, arith, map, option_map, unwrap_or, or_right, length-map, none-some, same_Some, slice_get-map, Id, Var, Program, HandleRecord, WatcherKind, Named, Slot, held, Walk, Content, Request, request_in, State, named, handle, request, watched, has_id, AreDistinct, run_ids, IsReached, By, base, earlier, retimed_place, capped_calls, capped_place, changed_place, moved_var, moved_content, moved_slot, by_names, place_of, name_in, Fits, get_arranged, with_run, ordered, swapped, has_at, IsRegular, Told, as_id, bound_by, bound_to, name_at, names_at, number_of, runs_at, tale, tale_by, told_name, walk_at, is_beside, place_spares, Open, is_open, same_id}
 use Rattle.uv_records.specs.declared.lists.WatcherKind.TheVariants as watcher
 use Rattle.uv_records.specs.Names as names
 use Rattle.uv_work.specs.declared.content.Content.TheVariants as content
@@ -50,17 +50,12 @@ module _ (f g : Id → Id) where
       let rest = ordered (map (option_map f) (less_at j zs)) in
       let h = one_out f g zs j y there same in
       let k = one_out f f zs j y there (λ k id e no. refl) in
-      ap (λ (r : Run). with_run (option_map g r) (ordered (map (option_map g) zs))) here
-      ∙ ap (with_run (Some (g x))) h ∙ (λ i. with_run (Some (one i)) (with_run (Some (two i)) rest))
-      ∙ swapped (Some (f y)) (Some (f x)) rest ∙ ap (with_run (Some (f x))) (sym k)
-      ∙ sym (ap (λ (r : Run). with_run (option_map f r) (ordered (map (option_map f) zs))) here)
+      grind (arith, with_run, option_map, ordered, map, swapped)
 
   -- where two have changed places it is the same list in order
   exchanged : (xs : List Run) (i j : ℕ) (x y : Id) → slice_get xs i ≡ Some (Some x) → slice_get xs j ≡ Some (Some y) → (i ≡ j → ⊥)
       → ((k : ℕ) (id : Id) → slice_get xs k ≡ Some (Some id) → (k ≡ i → ⊥) → (k ≡ j → ⊥) → g id ≡ f id) → g x ≡ f y → g y ≡ f x
       → ordered (map (option_map g) xs) ≡ ordered (map (option_map f) xs)
-  exchanged [] i j x y here there differ same one two = absurd (none-some (Some x) here)
-  exchanged (z ∷ zs) zero zero x y here there differ same one two = absurd (differ refl)
   exchanged (z ∷ zs) zero (suc j) x y here there differ same one two =
       front_out z zs j x y (same_Some z (Some x) here) there
       (λ k id e no. same (suc k) id e (λ eq. omega (arith, eq)) (λ eq. no (omega (arith, eq)))) one two
@@ -71,6 +66,7 @@ module _ (f g : Id → Id) where
       ap₂ (λ (r : Run) rs. with_run r rs) (run_same f g z (λ id e. same 0 id (ap Some e) (λ eq. omega (arith, eq)) (λ eq. omega (arith, eq))))
       (exchanged zs i j x y here there (λ e. differ (ap suc e))
       (λ k id e no other. same (suc k) id e (λ eq. no (omega (arith, eq))) (λ eq. other (omega (arith, eq)))) one two)
+  exchanged each e1 e2 x y here there differ same one two = grind arith
 
 -- ---- lists
 
@@ -94,10 +90,6 @@ run_has : (xs : List Run) (k : ℕ) (id : Id) → slice_get xs k ≡ Some (Some 
 run_has (None ∷ xs) (suc k) id e = run_has xs k id e
 run_has (Some x ∷ xs) (suc k) id e = or_right (same_id x id) (has_id (run_ids xs) id) (run_has xs k id e)
 run_has each e1 id e = grind arith
-
--- no handle is a request
-not_both : (o : Option Content) (h : HandleRecord) (r : Request) → handle_in o ≡ Some h → request_in o ≡ Some r → ⊥
-not_both each h r e f = grind arith
 
 held_request : (o : Option Content) (r : Request) → request_in o ≡ Some r → o ≡ Some (content.Request r)
 held_request each r e = grind arith
@@ -136,14 +128,8 @@ beside_var a v e = λ i. record { 0 = beside_stays a v e i }
 
 -- ---- where no callback of theirs is under way
 
-stage_same : (a : ℕ) (stage : Stage) → changed_stage (by_names (swap a)) stage ≡ stage
-stage_same a stage = grind arith
-
-body_same : (a : ℕ) (b : Option Body) → body_spares a b ≡ true → option_map (changed_body (by_names (swap a))) b ≡ b
-body_same a b e = grind (arith, beside_var)
-
 place_same : (a : ℕ) (place : Place) → place_spares a place ≡ true → changed_place (by_names (swap a)) place ≡ place
-place_same a place e = grind (arith, stage_same, body_same)
+place_same a place e = grind (arith, beside_var)
 
 module _ (p : Program) (s : State) (a : ℕ) (h : IsReached s) (regular : IsRegular p s) (wide : a + 2 ≤ length s.names) (t : AreTwins s a) where
   abbrev slots : List (Slot Content)
@@ -180,20 +166,15 @@ module _ (p : Program) (s : State) (a : ℕ) (h : IsReached s) (regular : IsRegu
   open_both = open_at t.i t.x t.one t.here t.holds_x ∙ sym (open_at t.j t.y t.two t.there t.holds_y)
 
   moved_y : moved_content (swap a) (content.Request t.two) ≡ content.Request t.one
-  moved_y =
-      let name : place_of (swap a) t.two.name.0 ≡ t.one.name.0 = ap (place_of (swap a)) t.name_y ∙ second_goes a ∙ sym t.name_x in
-      λ i. content.Request (record { name = record { 0 = name i }; task = sym t.task i; outcome = sym open_both i })
+  moved_y = grind (arith, place_of, second_goes, open_both)
 
   moved_x : moved_content (swap a) (content.Request t.one) ≡ content.Request t.two
-  moved_x =
-      let name : place_of (swap a) t.one.name.0 ≡ t.two.name.0 = ap (place_of (swap a)) t.name_x ∙ first_goes a ∙ sym t.name_y in
-      λ i. content.Request (record { name = record { 0 = name i }; task = t.task i; outcome = open_both i })
+  moved_x = grind (arith, place_of, first_goes, open_both)
 
   -- ---- names of ids
 
   moved_name : (c : Content) → (name_in (moved_content (swap a) c)).0 ≡ place_of (swap a) (name_in c).0
-  moved_name (content.Handle g) = refl
-  moved_name (content.Request r) = refl
+  moved_name c = grind arith
 
   at_other : (id : Id) → name_at others id ≡ number_of (option_map (moved_content (swap a)) (held slots id))
   at_other id = ap number_of (held_mirrored a s id)
@@ -238,10 +219,7 @@ module _ (p : Program) (s : State) (a : ℕ) (h : IsReached s) (regular : IsRegu
       λ i. record { list = list i; yet = yet i }
 
   no_handle : (id : Id) (g : HandleRecord) → handle s id ≡ Some g → IsOther id
-  no_handle id g e = (
-    λ is. not_both (held slots id) g t.one e (subst (λ k. request s k ≡ Some t.one) (sym is) t.holds_x),
-    λ is. not_both (held slots id) g t.two e (subst (λ k. request s k ≡ Some t.two) (sym is) t.holds_y),
-  )
+  no_handle id g e = grind arith
 
   watchers_other : (q : WatcherKind) (id : Id) → has_id ((watched s q).list ++ (watched s q).yet) id ≡ true → IsOther id
   watchers_other q id e = let its = (h.watchers q).each id e in no_handle id its.its its.holds
@@ -261,18 +239,10 @@ module _ (p : Program) (s : State) (a : ℕ) (h : IsReached s) (regular : IsRegu
 
   done_other : (id : Id) → has_id (s.done.list ++ s.done.yet) id ≡ true → IsOther id
   done_other id e =
-      let its = h.done.each id e in (
-        ended_no t.i id t.x t.one its.its t.here t.holds_x its.holds its.ended,
-        ended_no t.j id t.y t.two its.its t.there t.holds_y its.holds its.ended,
-      )
+      let its = h.done.each id e in (search ended_no)
 
   waiting_other : (id : Id) → has_id s.waiting id ≡ true → IsOther id
-  waiting_other id e = (
-    λ is. in_both s.waiting (run_ids s.running) t.x h.opened.distinct (subst (λ k. has_id s.waiting k ≡ true) is e)
-        (run_has s.running t.i t.x t.here),
-    λ is. in_both s.waiting (run_ids s.running) t.y h.opened.distinct (subst (λ k. has_id s.waiting k ≡ true) is e)
-        (run_has s.running t.j t.y t.there),
-  )
+  waiting_other id e = grind (arith, in_both, run_ids, has_id, run_has)
 
   -- ---- what workers run
 
@@ -287,9 +257,7 @@ module _ (p : Program) (s : State) (a : ℕ) (h : IsReached s) (regular : IsRegu
     one_place (None ∷ xs) d zero (suc m) e f = absurd (none-some z (same_Some None (Some z) e))
     one_place (None ∷ xs) d (suc k) zero e f = absurd (none-some z (same_Some None (Some z) f))
     one_place (None ∷ xs) d (suc k) (suc m) e f = ap suc (one_place xs d k m e f)
-    one_place (Some x ∷ xs) d zero (suc m) e f =
-        let same : x ≡ z = same_Some x z (same_Some (Some x) (Some z) e) in
-        absurd (let g : true ≡ false = sym (run_has xs m z f) ∙ ap (has_id (run_ids xs)) (sym same) ∙ d.0 in cc)
+    one_place (Some x ∷ xs) d zero (suc m) e f = grind (arith, same_Some, run_has, has_id, run_ids)
     one_place (Some x ∷ xs) d (suc k) zero e f =
         let same : x ≡ z = same_Some x z (same_Some (Some x) (Some z) f) in
         absurd (let g : true ≡ false = sym (run_has xs k z e) ∙ ap (has_id (run_ids xs)) (sym same) ∙ d.0 in cc)
@@ -299,10 +267,7 @@ module _ (p : Program) (s : State) (a : ℕ) (h : IsReached s) (regular : IsRegu
     once k m y e f = one_place s.running apart k m e f
 
   differ : t.i ≡ t.j → ⊥
-  differ e =
-      let one : t.x ≡ t.y = same_Some t.x t.y (same_Some (Some t.x) (Some t.y) (sym t.here ∙ ap (slice_get s.running) e ∙ t.there)) in
-      let f : a ≡ a + 1 = sym at_x ∙ ap (name_at slots) one ∙ at_y in
-      omega (arith, f)
+  differ e = grind arith
 
   runs_same : runs_at others s.running ≡ runs_at slots s.running
   runs_same = exchanged (λ id. as_id (name_at slots id)) (λ id. as_id (name_at others id)) s.running t.i t.j t.x t.y t.here t.there differ
@@ -312,8 +277,7 @@ module _ (p : Program) (s : State) (a : ℕ) (h : IsReached s) (regular : IsRegu
   -- ---- names
 
   content_stays : (c : Content) → place_of (swap a) (name_in c).0 ≡ (name_in c).0 → moved_content (swap a) c ≡ c
-  content_stays (content.Handle g) e = λ i. content.Handle (record g { name = record { 0 = e i } })
-  content_stays (content.Request r) e = λ i. content.Request (record r { name = record { 0 = e i } })
+  content_stays c e = grind arith
 
   fits : Fits (swap a) s.names
   fits = record { order = swap_order a; within = (let long = swap_length a in omega (arith, wide, long)) }
@@ -333,18 +297,11 @@ module _ (p : Program) (s : State) (a : ℕ) (h : IsReached s) (regular : IsRegu
     turned = told_name d n others
 
     told_first : turned (named s second) ≡ told (named s first)
-    told_first =
-        let bound : bound_to d others (named s second).id ≡ bound_to d slots (named s first).id =
-        ap (bound_to d others) bound_y ∙ ap (bound_by d) (held_mirrored a s t.y ∙ ap (option_map (moved_content (swap a))) held_y)
-        ∙ ap (λ c. bound_by d (Some c)) moved_y ∙ sym (ap (bound_by d) held_x) ∙ sym (ap (bound_to d slots) bound_x) in
-        λ i. record { bound = bound i; calls = capped_calls n (sym t.calls i) }
+    told_first = grind (arith, bound_to, named, bound_y, bound_by, held_mirrored, option_map, held_y, moved_y, held_x, bound_x, capped_calls)
 
     told_second : turned (named s first) ≡ told (named s second)
     told_second =
-        let bound : bound_to d others (named s first).id ≡ bound_to d slots (named s second).id =
-        ap (bound_to d others) bound_x ∙ ap (bound_by d) (held_mirrored a s t.x ∙ ap (option_map (moved_content (swap a))) held_x)
-        ∙ ap (λ c. bound_by d (Some c)) moved_x ∙ sym (ap (bound_by d) held_y) ∙ sym (ap (bound_to d slots) bound_y) in
-        λ i. record { bound = bound i; calls = capped_calls n (t.calls i) }
+        grind (arith, bound_to, named, bound_x, bound_by, held_mirrored, option_map, held_x, moved_x, held_y, bound_y, capped_calls)
 
     told_other : (k : ℕ) → (k ≡ a → ⊥) → (k ≡ a + 1 → ⊥) → option_map turned (slice_get s.names k) ≡ option_map told (slice_get s.names k)
     told_other k no_a no_b = by (slice_get s.names k) refl where
@@ -374,12 +331,7 @@ module _ (p : Program) (s : State) (a : ℕ) (h : IsReached s) (regular : IsRegu
 
         by : (k : ℕ) (b c : Bool) → (k == a) ≡ b → (k == a + 1) ≡ c
             → option_map turned (slice_get s.names (place_of (swap a) k)) ≡ option_map told (slice_get s.names k)
-        by k true c is other =
-            let one : k ≡ a = is_equal k a is in
-            ap (λ m. option_map turned (slice_get s.names (place_of (swap a) m))) one
-            ∙ ap (λ m. option_map turned (slice_get s.names m)) (first_goes a)
-            ∙ ap (option_map turned) (there_is (a + 1) (omega (arith, wide))) ∙ ap Some told_first
-            ∙ sym (ap (option_map told) (there_is a (omega (arith, wide)))) ∙ ap (λ m. option_map told (slice_get s.names m)) (sym one)
+        by k true c is other = grind (arith, is_equal, option_map, slice_get, place_of, first_goes, there_is, told_first)
         by k false true is other =
             let one : k ≡ a + 1 = is_equal k (a + 1) other in
             ap (λ m. option_map turned (slice_get s.names (place_of (swap a) m))) one
@@ -403,27 +355,10 @@ module _ (p : Program) (s : State) (a : ℕ) (h : IsReached s) (regular : IsRegu
         let closing = walk_same s.closing closing_other in
         let waiting = list_same s.waiting waiting_other in
         let done = walk_same s.done done_other in
-        λ i. record {
-          place = retimed_place (earlier d) (capped_place n (place i));
-          names = names_same i;
-          used = used i;
-          unused = s.arena.unused;
-          ready = ready i;
-          idle = idle i;
-          prepare = prepare i;
-          check = check i;
-          async = async i;
-          closing = closing i;
-          waiting = waiting i;
-          running = runs_same i;
-          done = done i;
-          numbers = numbers_at d s;
-        }
+        grind (arith, retimed_place, earlier, capped_place, names_same, runs_same)
 
   base_same : base (mirrored a s) ≡ base s
-  base_same =
-      let place = place_same a s.place t.place in
-      λ i. record { ms = or_over (place i) (or_first s.timers (min s.time s.clock)); starts = least_start s.timers s.next_start }
+  base_same = grind arith
 
   pub twins_alike : (n : ℕ) → tale n (mirrored a s) ≡ tale n s
   twins_alike n = ap (λ d. tale_by d n (mirrored a s)) base_same ∙ tale_same (base s) n

@@ -1,7 +1,6 @@
 -- Each move of an order near a recording is an offer of every order.
-use Rattle.uv_find.proofs.Names.{◌≡◌, ℕ, ◌-◌, ◌==◌, ◌&&◌, not, Bool, true, false, List, length, nat_le, nat_lt, slice_get, refl, sym, ap, ap₂, subst, ◌∙◌, Option, Some, None, inl, inr, if◌then◌else◌, option_map, same_Some, none-some, Event, State, named, Offer, Step, SendDuring, Wait, WaitFor, Offered, Recorded, Kept, Left, owes, with_spare, Rules, Place, Choice, aim, is_made, is_seen, is_free, is_clear, spending, step_of, is_run, take_by, deadline_at, wait_until, wait_for, event_of, keeps_clock, timed, offered_here, offered_by, brief, chosen, lessened, move_count, waited_for, came, comes_by, comes, waiting, waits_or_goes, with_kept, going, past, go_on_by, go_on, is_due, come_by, come_in_place, in_place_of, in_place, spent, free_of, elsewhere_by, elsewhere_with, elsewhere_of, elsewhere, recorded_at, choice_by, IsOffered, idle_worker, ranked}
+use Rattle.uv_find.proofs.Names.{◌≡◌, ℕ, ◌-◌, ◌==◌, ◌&&◌, not, Bool, true, false, List, length, nat_le, nat_lt, slice_get, refl, sym, ap, ap₂, subst, ◌∙◌, Option, Some, None, inl, inr, if◌then◌else◌, option_map, same_Some, none-some, Event, State, named, Offer, Step, SendDuring, Wait, Offered, Recorded, Kept, Left, owes, with_spare, Rules, Place, Choice, aim, is_made, is_seen, is_free, is_clear, spending, step_of, is_run, deadline_at, wait_until, event_of, keeps_clock, timed, offered_here, offered_by, brief, chosen, lessened, move_count, waited_for, came, comes_by, comes, waiting, waits_or_goes, with_kept, going, past, go_on_by, go_on, is_due, come_by, come_in_place, in_place_of, in_place, spent, free_of, elsewhere_by, elsewhere_with, elsewhere_of, elsewhere, recorded_at, choice_by, IsOffered, ranked}
 use Rattle.uv_ids.specs.declared.event.Event.TheVariants as event
-use Rattle.uv_asking.specs.declared.asking.Offer.TheVariants.{Take}
 use Rattle.uv_find.specs.declared.left.Left.TheVariants as left
 use Rattle.uv_find.specs.Orders.{choice_at}
 use Rattle.uv_find.specs.Within.{every_order, MayTake, offer_by, wait_by, offer_of, IsNext, Brings, IsCommon, CameFromOutside, NearIsWithin}
@@ -38,13 +37,7 @@ module _ (r : Rules) (offers : List Offered) (all : Place) (s : State) (state : 
     free_same (event.Cancel v) = refl
 
     spending_same : (e : Event) → spending all.kept e ≡ spending k e
-    spending_same event.Loop = ap (λ o. if nat_lt 0 o then event.Tick o else event.Loop) owed
-    spending_same (event.Io v) = refl
-    spending_same (event.Tick ms) = refl
-    spending_same (event.Send v) = refl
-    spending_same (event.Take worker) = refl
-    spending_same (event.Finish worker) = refl
-    spending_same (event.Cancel v) = refl
+    spending_same each = search nat_lt
 
     step_same : (e : Event) → step_of all.state all.kept e ≡ step_of s k e
     step_same e =
@@ -53,13 +46,10 @@ module _ (r : Rules) (offers : List Offered) (all : Place) (s : State) (state : 
         λ i. if is_made (state i) (aim e) && free i then Some (spends i) else None
 
     event_same : (offer : Offer) → event_of r.program all.state all.kept offer ≡ event_of r.program s k offer
-    event_same (Step e) = step_same e
     event_same (SendDuring v job) =
         let step = step_same (event.Send v) in
         λ i. if is_run (state i) (named (state i) job).id then step i else None
-    event_same Take = ap (λ u. take_by (idle_worker u)) state
-    event_same Wait = ap (λ (u : State). wait_until r.program u (deadline_at u.place)) state
-    event_same (WaitFor ms) = ap (λ u. wait_for r.program u ms) state
+    event_same each = search (step_same, named)
 
     -- an offer that may be taken, and is an event here, is a move
     taken : (offer : Offer) (e : Event) → MayTake offers all.left offer → timed r.clock s.clock (event_of r.program s k offer) ≡ Some e
@@ -117,25 +107,20 @@ module _ (r : Rules) (offers : List Offered) (all : Place) (s : State) (state : 
 
     plain : (x : Event) → (x ≡ event.Loop → ⊥) → is_made s (aim x) ≡ true → is_clear k x ≡ true → IsCommon s x
         → event_of r.program s k (offer_by x) ≡ Some x
-    plain event.Loop other made clear common = absurd (other refl)
-    plain (event.Take worker) other made clear common = ap take_by common
-    plain (event.Finish worker) other made clear common = refl
     plain (event.Cancel v) other made clear common = ap (λ b. if b && true then Some (event.Cancel v) else None) made
     plain (event.Send v) other made clear common = ap₂ (λ b c. if b && c then Some (event.Send v) else None) made common
     plain (event.Io v) other made clear common = ap₂ (λ b c. if b && c then Some (event.Io v) else None) made clear
     plain (event.Tick ms) other made clear common = ap (λ c. if c then Some (event.Tick ms) else None) clear
+    plain each other made clear common = search ap₂
 
     waits : (x e : Event) → (x ≡ event.Loop → ⊥) → is_made s (aim x) ≡ true → is_clear k x ≡ true → IsCommon s e
         → waited_for r.program s x ≡ Some e → event_of r.program s k (wait_by x) ≡ Some e
-    waits event.Loop e other made clear common h = absurd (other refl)
-    waits (event.Tick ms) e other made clear common h = h
-    waits (event.Take worker) e other made clear common h = h
-    waits (event.Finish worker) e other made clear common h = h
     waits (event.Cancel v) e other made clear common h = ap (λ b. if b && true then Some (event.Cancel v) else None) made ∙ h
     waits (event.Send v) e other made clear common h =
         let seen = subst (IsCommon s) (sym (same_Some (event.Send v) e h)) common in
         ap₂ (λ b c. if b && c then Some (event.Send v) else None) made seen ∙ h
     waits (event.Io v) e other made clear common h = ap₂ (λ b c. if b && c then Some (event.Io v) else None) made clear ∙ h
+    waits each e other made clear common h = search (same_Some, ap₂)
 
     abbrev offered_as : Bool → Event → Offer
     offered_as w x = if w then wait_by x else offer_by x
@@ -181,10 +166,8 @@ module _ (r : Rules) (offers : List Offered) (near all : Place) (outside : CameF
 
   came_event : (source number : ℕ) (t : Option (List Left × ℕ)) (o : Option Event) (c : Choice)
       → come_by r.recorded near.kept source number t o ≡ Some c → o ≡ Some c.event
-  came_event source number None None c h = absurd (none-some c h)
-  came_event source number None (Some e) c h = absurd (none-some c h)
-  came_event source number (Some t) None c h = absurd (none-some c h)
   came_event source number (Some t) (Some e) c h = ap (λ (x : Choice). Some x.event) (same_Some _ c h)
+  came_event source number each e3 c h = search (none-some, same_Some)
 
   in_place_offered : (source : ℕ) (c : Choice) → in_place r near source ≡ Some c → IsCommon near.state c.event → IsOffered each all c.event
   in_place_offered source c h common = by (slice_get near.left source) refl h where
@@ -235,10 +218,8 @@ module _ (r : Rules) (offers : List Offered) (near all : Place) (outside : CameF
 
   on_event : (g : Option (Event × Kept)) (t : Option (List Left × ℕ)) (c : Choice) → go_on_by g t ≡ Some c
       → (x : Event × Kept) × (g ≡ Some x) × (x.0 ≡ c.event)
-  on_event None None c h = absurd (none-some c h)
-  on_event None (Some t) c h = absurd (none-some c h)
-  on_event (Some x) None c h = absurd (none-some c h)
   on_event (Some x) (Some t) c h = (x, refl, ap (λ (y : Choice). y.event) (same_Some _ c h))
+  on_event each e1 c h = search (none-some, same_Some)
 
   on_offered : (c : Choice) → go_on r near ≡ Some c → IsOffered each all c.event
   on_offered c h =

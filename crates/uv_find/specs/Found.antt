@@ -10,7 +10,7 @@ use Rattle.uv_script.specs.Program.{Program, arena_size}
 use Rattle.uv_model.specs.After.{after, STEPS}
 use Rattle.uv_model.specs.Queries.{run_by}
 use Rattle.uv_shift.specs.Shift.{IsShort}
-use Rattle.uv_slots.specs.NamedForm.{AreDeclared}
+use Rattle.uv_slots.specs.Tidy.{AreDeclared}
 use Rattle.uv_tale.specs.Alike.{IsRegular}
 use Rattle.uv_search.specs.Keys.{Has}
 use Rattle.uv_find.specs.declared.finding.Answer.{Answer}

@@ -6,7 +6,7 @@ use Rattle.uv_key.specs.Codes.{number_code}
 use Rattle.uv_model.specs.After.{after, STEPS}
 use Rattle.uv_shift.specs.Shift.{IsShort}
 use Rattle.uv_names.specs.Counts.{AreBefore}
-use Rattle.uv_slots.specs.NamedForm.{AreDeclared}
+use Rattle.uv_slots.specs.Tidy.{AreDeclared}
 use Rattle.uv_state_key.specs.TaleKey.{key_code}
 use Rattle.uv_state_key.specs.Formed.{Formed, formed}
 use Rattle.uv_find.specs.Forgetting.{LONG, LONGEST, are_common, most_end, takes_end, question_end, forget_of}

@@ -1,9 +1,8 @@
 -- The youngest form of a state, and that of the state once its slots were freed more often.
-use Rattle.uv_generations.proofs.Names.{◌≡◌, ℕ, zero, suc, ◌+◌, List, [], ◌∷◌, Option, Some, None, slice_get, option_and_then, refl, ap, ◌∙◌, arith, Id, Slot, Content, Named, State, Program, held_in, map, option_map, ◌-◌, ◌≤◌, run_ids, Renaming, renamed, Frees, freed_more, more, freed_less, least_bound, least_of, surplus, youngest, IsInSlot, IsYoung}
+use Rattle.uv_generations.proofs.Names.{◌≡◌, ℕ, zero, suc, ◌+◌, List, [], ◌∷◌, Option, Some, None, slice_get, refl, ap, ◌∙◌, arith, Id, Slot, Content, Named, State, Program, map, option_map, ◌-◌, ◌≤◌, run_ids, Renaming, renamed, Frees, freed_more, more, freed_less, least_bound, least_of, surplus, youngest, IsInSlot, IsYoung, rename, renaming, relabeled_named}
 use Rattle.uv_records.specs.declared.lists.WatcherKind.TheVariants as watcher
-use Rattle.uv_generations.specs.Renamed as any
-use Rattle.uv_generations.proofs.More.{renamed_named}
-use Rattle.uv_generations.proofs.Slots.{get_renamed}
+use Rattle.uv_slots.proofs.Named.{is_there}
+use Rattle.uv_generations.proofs.Slots.{by_frees, get_renamed}
 use Rattle.uv_generations.proofs.Twice.{both, twice, has_front, has_behind, ids_same, walk_same, running_same, timers_same, slots_same}
 
 -- ---- none of its ids is younger than its surplus
@@ -26,21 +25,17 @@ again k = both (freed_more k) (freed_less k)
 back_again : (g n : ℕ) → n ≤ g → g - n + n ≡ g
 back_again g n h = omega arith
 
-id_again : (k : Frees) (id : Id) → k id.slot ≤ id.generation → any.rename (again k) id ≡ id
+id_again : (k : Frees) (id : Id) → k id.slot ≤ id.generation → rename (again k) id ≡ id
 id_again k id h = ap (λ (g : ℕ). record { slot = id.slot; generation = g }) (back_again id.generation (k id.slot) h)
 
-pub slot_of : (slots : List (Slot Content)) (id : Id) (x : Content) (o : Option (Slot Content)) → option_and_then (held_in id) o ≡ Some x →
-    (slot : Slot Content) × (o ≡ Some slot) × (slot.generation ≡ id.generation)
-slot_of slots id x o e = grind arith
-
 names_same : (f : Renaming) (ns : List Named) →
-    ((i : ℕ) (n : Named) (id : Id) → slice_get ns i ≡ Some n → n.id ≡ Some id → any.rename f id ≡ id) → map (any.renamed_named f) ns ≡ ns
+    ((i : ℕ) (n : Named) (id : Id) → slice_get ns i ≡ Some n → n.id ≡ Some id → rename f id ≡ id) → map (relabeled_named (renaming f)) ns ≡ ns
 names_same f [] h = refl
 names_same f (n ∷ ns) h =
     let first = by n.id refl in
     let rest = names_same f ns (λ i m id e k. h (suc i) m id e k) in
     λ i. record n { id = first i } ∷ rest i where
-      by : (o : Option Id) → n.id ≡ o → option_map (any.rename f) o ≡ o
+      by : (o : Option Id) → n.id ≡ o → option_map (rename f) o ≡ o
       by None e = refl
       by (Some id) e = ap Some (h zero n id refl e)
 
@@ -48,7 +43,7 @@ names_same f (n ∷ ns) h =
 pub youngest_more : (p : Program) (s : State) → IsYoung p s → more (surplus s) (youngest s) ≡ s
 youngest_more p s h =
     let f = again (surplus s) in
-    let each : (id : Id) → IsInSlot s id → any.rename f id ≡ id = λ id k. id_again (surplus s) id (grind (arith, slot_of, bound_least)) in
+    let each : (id : Id) → IsInSlot s id → rename f id ≡ id = λ id k. id_again (surplus s) id (grind (arith, is_there, bound_least)) in
     let names = names_same f s.names (λ i n id e k. id_again (surplus s) id (grind (arith, named_least))) in
     let slots = slots_same f s.arena.slots (λ n slot e. back_again slot.generation (surplus s n) (grind (arith, bound_least))) in
     let timers = timers_same f s.timers (λ due id k. each id (h.timers due id k)) in
@@ -66,18 +61,19 @@ youngest_more p s h =
 -- ---- however often slots were freed more, the youngest form is the same
 
 bound_more : (k : Frees) (slot : ℕ) (ns : List Named) (least : ℕ) →
-    least_bound slot (map (renamed_named k) ns) (least + k slot) ≡ least_bound slot ns least + k slot
+    least_bound slot (map (relabeled_named (by_frees k)) ns) (least + k slot) ≡ least_bound slot ns least + k slot
 bound_more k slot [] least = refl
 bound_more k slot (n ∷ ns) least = grind (arith, (bound_more k slot ns least))
 
 base_more : (k : Frees) (s : State) (slot : ℕ) → (slice_get s.arena.slots slot ≡ None → k slot ≡ 0)
     → surplus (more k s) slot ≡ surplus s slot + k slot
-base_more k s slot unused = ap (least_of slot (map (renamed_named k) s.names)) (get_renamed k s.arena.slots slot)
+base_more k s slot unused = ap (least_of slot (map (relabeled_named (by_frees k)) s.names)) (get_renamed k s.arena.slots slot)
     ∙ by (slice_get s.arena.slots slot) refl where
       by : (o : Option (Slot Content)) → slice_get s.arena.slots slot ≡ o →
-          least_of slot (map (renamed_named k) s.names) (option_map (λ (it : Slot Content). record it { generation = it.generation + k slot }) o)
+          least_of slot (map (relabeled_named (by_frees k)) s.names)
+          (option_map (λ (it : Slot Content). record it { generation = it.generation + k slot }) o)
           ≡ least_of slot s.names o + k slot
-      by o e = grind (arith, bound_more)
+      by o e = grind (arith, (bound_more k slot s.names))
 
 pub youngest_same : (k : Frees) (s : State) → ((slot : ℕ) → slice_get s.arena.slots slot ≡ None → k slot ≡ 0) → youngest (more k s) ≡ youngest s
 youngest_same k s unused =

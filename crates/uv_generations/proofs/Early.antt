@@ -1,5 +1,5 @@
 -- The earliest form of a young state is young.
-use Rattle.uv_generations.proofs.Names.{◌≡◌, ◌+◌, Option, Some, refl, ap, sym, subst, ◌∙◌, arith, option_map, Id, Program, held, Content, State, IsInSlot, IsYoung, retimed_content, By, later, shift, earliest, earlier, or_over, or_first, least_start, IsTimed}
+use Rattle.uv_generations.proofs.Names.{◌≡◌, ◌+◌, Option, Some, refl, ap, sym, subst, ◌∙◌, arith, option_map, Id, Program, held, Content, State, IsInSlot, IsYoung, retimed_content, By, later, shift, earliest, IsTimed}
 use Rattle.uv_shift.specs.Earliest as early
 use Rattle.uv_shift.specs.Earliest.{untimed_line}
 use Rattle.uv_shift.proofs.Slots.{held_shift}

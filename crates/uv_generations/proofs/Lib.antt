@@ -1,5 +1,4 @@
 mod Names
-pub mod More
 pub mod Slots
 pub mod Twice
 pub mod Base

@@ -1,17 +1,12 @@
 -- Who stands on a list of a state that steps lead to is held, and no slot is at its last generation after few steps.
-use Rattle.uv_generations.proofs.Names.{◌≡◌, ℕ, ◌+◌, ◌<◌, List, [], ◌∷◌, length, Some, arith, Id, Event, Content, Program, State, handle, request, held, arena_size, slice_get, add-zero, Next, fresh, goes_on, state_of, suc, subst, ◌≤◌, next, IsInSlot, IsYoung, HandleRecord, Request, elements}
+use Rattle.uv_generations.proofs.Names.{◌≡◌, ℕ, ◌+◌, ◌<◌, List, [], ◌∷◌, length, Some, arith, Id, Event, Content, Program, State, handle, request, held, arena_size, add-zero, fresh, goes_on, state_of, suc, subst, ◌≤◌, next, IsInSlot, IsYoung, HandleRecord, Request, elements}
 use Rattle.uv_model.specs.After.{after}
-use Rattle.uv_model.proofs.Bounded.{next_bounded}
-use Rattle.uv_model.proofs.Counting.{Freed, IsBounded, StaysBounded, slot_freed}
+use Rattle.uv_model.proofs.Counting.{Freed, IsBounded, slot_freed}
 use Rattle.uv_order.proofs.Reaching.{reached}
-use Rattle.uv_generations.proofs.Base.{slot_of}
+use Rattle.uv_shift.proofs.Reached.{state_bounded}
+use Rattle.uv_slots.proofs.Named.{is_there}
 
 -- ---- how often slots were freed
-
-state_bounded : (p : Program) (n : ℕ) (s : State) (e : Event) → IsBounded n s → IsBounded (suc n) (state_of s (next p s e))
-state_bounded p n s e h = kept (next p s e) (next_bounded p n s e h) where
-  kept : (x : Next) → StaysBounded (suc n) x → IsBounded (suc n) (state_of s x)
-  kept x k = grind arith
 
 goes_on_freed : (p : Program) (n : ℕ) (s : State) (es : List Event) → IsBounded n s → Freed (n + length es) (goes_on p s es).arena.slots
 goes_on_freed p n s [] h = rw add-zero h.freed
@@ -28,9 +23,9 @@ after_freed p es =
 
 held_freed : (s : State) (n : ℕ) (id : Id) (x : Content) → Freed n s.arena.slots → held s.arena.slots id ≡ Some x → id.generation ≤ n
 held_freed s n id x h e =
-    let slot = slot_of s.arena.slots id x (slice_get s.arena.slots id.slot) e in
-    let l = slot_freed n s.arena.slots id.slot slot.0 slot.1 h in
-    omega (arith, l, slot.2)
+    let k = is_there s.arena.slots id x e in
+    let l = slot_freed n s.arena.slots id.slot k.slot k.there h in
+    omega (arith, l, k.generation)
 
 -- ---- who is held
 

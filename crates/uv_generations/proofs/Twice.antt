@@ -1,38 +1,32 @@
 -- What becomes of a state that is renamed twice, and where no id becomes another.
-use Rattle.uv_generations.proofs.Names.{◌≡◌, ℕ, suc, List, [], ◌∷◌, ◌++◌, true, Option, Some, None, slice_get, refl, ap, ap₂, Id, Slot, Content, Named, State, Walk, arith, inl, inr, map, option_map, has_id, run_ids, Has, Renaming, rename, renamed_walk, renamed_named, renamed_slots, renamed_entry, renamed, Due}
+use Rattle.uv_generations.proofs.Names.{◌≡◌, ℕ, suc, List, [], ◌∷◌, ◌++◌, true, Option, Some, None, slice_get, refl, ap, ap₂, Id, Slot, Content, Named, State, Walk, arith, inl, inr, map, option_map, has_id, run_ids, Has, Renaming, rename, renamed_slots, renamed, renaming, relabeled_entry, relabeled_named, relabeled_walk, Due}
+use Rattle.std.proofs.lemmas.Simd.{map-map}
 
 -- ---- twice
 
 abbrev pub both : Renaming → Renaming → Renaming
 both f g = λ slot generation. f slot (g slot generation)
 
-ids_twice : (f g : Renaming) (ids : List Id) → map (rename f) (map (rename g) ids) ≡ map (rename (both f g)) ids
-ids_twice f g [] = refl
-ids_twice f g (id ∷ ids) = ap (λ (xs : List Id). rename (both f g) id ∷ xs) (ids_twice f g ids)
-
 running_twice : (f g : Renaming) (running : List (Option Id)) →
     map (option_map (rename f)) (map (option_map (rename g)) running) ≡ map (option_map (rename (both f g))) running
 running_twice f g [] = refl
 running_twice f g (o ∷ os) = ap₂ (λ (x : Option Id) (xs : List (Option Id)). x ∷ xs) (grind arith) (running_twice f g os)
 
-names_twice : (f g : Renaming) (ns : List Named) → map (renamed_named f) (map (renamed_named g) ns) ≡ map (renamed_named (both f g)) ns
+names_twice : (f g : Renaming) (ns : List Named) →
+    map (relabeled_named (renaming f)) (map (relabeled_named (renaming g)) ns) ≡ map (relabeled_named (renaming (both f g))) ns
 names_twice f g [] = refl
 names_twice f g (n ∷ ns) = ap₂ (λ (x : Option Id) (xs : List Named). record n { id = x } ∷ xs) (grind arith) (names_twice f g ns)
-
-timers_twice : (f g : Renaming) (ts : List (Due × Id)) → map (renamed_entry f) (map (renamed_entry g) ts) ≡ map (renamed_entry (both f g)) ts
-timers_twice f g [] = refl
-timers_twice f g (t ∷ ts) = ap (λ (us : List (Due × Id)). renamed_entry (both f g) t ∷ us) (timers_twice f g ts)
 
 slots_twice : (f g : Renaming) (slots : List (Slot Content)) → renamed_slots f (renamed_slots g slots) ≡ renamed_slots (both f g) slots
 slots_twice f g [] = refl
 slots_twice f g (x ∷ xs) = cc (slots_twice (λ n. f (suc n)) (λ n. g (suc n)) xs)
 
 pub twice : (f g : Renaming) (s : State) → renamed f (renamed g s) ≡ renamed (both f g) s
-twice f g s = simp (names_twice, slots_twice, timers_twice, ids_twice, running_twice)
+twice f g s = simp (names_twice, slots_twice, running_twice, map-map)
 
 -- ---- where no id becomes another
 
-has_first : (id : Id) (ids : List Id) → has_id (id ∷ ids) id ≡ true
+pub has_first : (id : Id) (ids : List Id) → has_id (id ∷ ids) id ≡ true
 has_first id ids = grind arith
 
 has_rest : (x id : Id) (ids : List Id) → has_id ids id ≡ true → has_id (x ∷ ids) id ≡ true
@@ -50,7 +44,7 @@ pub ids_same : (f : Renaming) (ids : List Id) → ((id : Id) → has_id ids id �
 ids_same f [] h = refl
 ids_same f (x ∷ xs) h = ap₂ (λ (y : Id) (ys : List Id). y ∷ ys) (h x (has_first x xs)) (ids_same f xs (λ id k. h id (has_rest x id xs k)))
 
-pub walk_same : (f : Renaming) (w : Walk Id) → ((id : Id) → has_id (w.list ++ w.yet) id ≡ true → rename f id ≡ id) → renamed_walk f w ≡ w
+pub walk_same : (f : Renaming) (w : Walk Id) → ((id : Id) → has_id (w.list ++ w.yet) id ≡ true → rename f id ≡ id) → relabeled_walk (renaming f) w ≡ w
 walk_same f w h = simp (ids_same, has_front, has_behind)
 
 pub running_same : (f : Renaming) (running : List (Option Id)) → ((id : Id) → has_id (run_ids running) id ≡ true → rename f id ≡ id) →
@@ -60,7 +54,7 @@ running_same f (None ∷ os) h = ap (λ (xs : List (Option Id)). None ∷ xs) (r
 running_same f (Some id ∷ os) h = search (has_first, has_rest, (running_same f os (λ it k. h it (has_rest id it (run_ids os) k))))
 
 pub timers_same : (f : Renaming) (ts : List (Due × Id)) → ((due : Due) (id : Id) → Has ts due id → rename f id ≡ id) →
-    map (renamed_entry f) ts ≡ ts
+    map (relabeled_entry (renaming f)) ts ≡ ts
 timers_same f [] h = refl
 timers_same f (t ∷ ts) h =
     let first = h t.0 t.1 (inl (refl, refl)) in

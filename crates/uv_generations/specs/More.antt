@@ -1,13 +1,11 @@
 -- A state whose slots were freed more often: so many times as the slot's number tells.
 use Rattle.std.specs.Prelude.{◌≡◌, ℕ, ◌+◌, ◌<◌, length, Some}
 use Rattle.uv_ids.specs.declared.id.Id.{Id}
-use Rattle.uv_ids.specs.declared.seen.Seen.{Seen}
 use Rattle.uv_script.specs.Program.{Program, arena_size}
 use Rattle.uv_records.specs.Slots.{held}
 use Rattle.uv_work.specs.declared.content.Content.{Content}
 use Rattle.uv_model.specs.State.{State}
-use Rattle.uv_model.specs.Next.{Next}
-use Rattle.uv_generations.specs.Renamed.{Renaming, renamed, renamed_line, renamed_next}
+use Rattle.uv_generations.specs.Renamed.{Renaming, renamed}
 
 -- how many times more each slot was freed, by its number
 abbrev pub Frees : Type 0
@@ -18,12 +16,6 @@ freed_more k = λ slot generation. generation + k slot
 
 abbrev pub more : Frees → State → State
 more k s = renamed (freed_more k) s
-
-abbrev pub more_line : Frees → Seen → Seen
-more_line k line = renamed_line (freed_more k) line
-
-abbrev pub more_next : Frees → Next → Next
-more_next k x = renamed_next (freed_more k) x
 
 -- where a step is that of the state itself, renamed
 pub record CanRename (p : Program) (k : Frees) (s : State) : Type 0 where

@@ -5,13 +5,17 @@ ghost use Rattle.uv_script.specs.Program.{Program, arena_size};
 ghost use Rattle.uv_model.specs.State.{State};
 ghost use Rattle.uv_model.specs.Next.{next};
 ghost use Rattle.uv_model.specs.After.{after};
-ghost use Rattle.uv_generations.specs.More.{Frees, more, more_next, CanRename};
+ghost use Rattle.uv_alike.specs.Changed.{next_map};
+ghost use Rattle.uv_generations.specs.More.{Frees, freed_more, more, CanRename};
+ghost use Rattle.uv_generations.specs.Renamed.{renaming};
 ghost use Rattle.uv_generations.specs.Youngest.{surplus, youngest, IsYoung};
+ghost use Rattle.uv_slots.specs.Relabeled.{relabeled_line};
 
 /// For every script, state and event: a step from a state whose slots were freed more often is the step from the state itself, with
 /// their ids renamed. So long as no slot comes to its last generation by that. It does nothing, and is called for its clause.
 pub fn generations_rename()
-    ensures { (p : Program) (k : Frees) (s : State) (e : Event) → CanRename p k s → next p (more k s) e ≡ more_next k (next p s e) }
+    ensures { (p : Program) (k : Frees) (s : State) (e : Event) → CanRename p k s
+        → next p (more k s) e ≡ next_map (more k) (relabeled_line (renaming (freed_more k))) (next p s e) }
 {}
 
 /// The youngest form of a state, freed more often by its surplus, is the state; and however often its slots were freed more, its youngest

@@ -1,7 +1,8 @@
 -- What is counted no further than to a number, what is read of it, and a step.
 use Rattle.uv_names.proofs.Names.{◌≡◌, ℕ, suc, zero, ◌+◌, ◌≤◌, Bool, List, [], ◌∷◌, Option, Some, refl, ap, ap₂, sym, ◌∙◌, arith, drop, slice_get, unwrap_or, if◌then◌else◌, map, min, option_map, map-set, Event, Var, Callback, Named, count_of, counted, unbound, Program, Callbacks, no_callbacks, lines_in, lines_of, is_for, next_line, Running, State, named, Moves, next, body_at, body_from, Calls, CallbackLine}
+use Rattle.uv_alike.specs.Changed.{state_map}
 use Rattle.uv_ids.specs.declared.seen.Callback.TheVariants as callback
-use Rattle.uv_names.specs.Counts.{capped_calls, capped_name, capped_body, capped_place, capped, capped_next, IsBefore, AreBefore, lines_end, callbacks_end, all_end, script_end}
+use Rattle.uv_names.specs.Counts.{capped_calls, capped_name, capped_body, capped_place, capped, IsBefore, AreBefore, lines_end, callbacks_end, all_end, script_end}
 use Rattle.uv_names.proofs.Changed.{as_is, Hides, named_changed}
 use Rattle.uv_names.proofs.Walk.{SeesAlike, step_alike}
 
@@ -63,7 +64,7 @@ body_alike n p kind v a b number before same =
 
 -- ---- a step
 
-sees : (n : ℕ) (p : Program) → AreBefore n p → SeesAlike p (capped_name n) (λ call. min call n) as_is (capped_next n) (capped_next n)
+sees : (n : ℕ) (p : Program) → AreBefore n p → SeesAlike p (capped_name n) (λ call. min call n) as_is (state_map (capped n)) (state_map (capped n))
 sees n p before = record {
   refuses = λ why. refl;
   stays = λ u line. ap₂ (λ place ns. Moves (record u { place = place; names = ns }) line) (grind arith) (names_twice n u.names);
@@ -79,14 +80,14 @@ hides : (n : ℕ) (s : State) → Hides (capped_name n) s
 hides n s = record { unbound = unbound_capped n; live = λ x. refl; fresh = λ id e x. refl }
 
 pub counts_capped : (n : ℕ) (p : Program) (s : State) (e : Event) → AreBefore n p →
-    capped_next n (next p (capped n s) e) ≡ capped_next n (next p s e)
+    state_map (capped n) (next p (capped n s) e) ≡ state_map (capped n) (next p s e)
 counts_capped n p s e before =
-    step_alike p (capped_name n) (λ call. min call n) (capped_next n) (capped_next n) (sees n p before) s (hides n s) e
+    step_alike p (capped_name n) (λ call. min call n) (state_map (capped n)) (state_map (capped n)) (sees n p before) s (hides n s) e
 
 pub alike_by_counts : (n : ℕ) (p : Program) (s t : State) (e : Event) → AreBefore n p → capped n s ≡ capped n t →
-    capped_next n (next p s e) ≡ capped_next n (next p t e)
+    state_map (capped n) (next p s e) ≡ state_map (capped n) (next p t e)
 alike_by_counts n p s t e before same =
-    sym (counts_capped n p s e before) ∙ ap (λ u. capped_next n (next p u e)) same ∙ counts_capped n p t e before
+    sym (counts_capped n p s e before) ∙ ap (λ u. state_map (capped n) (next p u e)) same ∙ counts_capped n p t e before
 
 -- ---- a number that each line is before
 

@@ -1,5 +1,6 @@
 -- A state whose names are bound to other ids that no step can tell from theirs. A step from it is the step from the state itself, rebound.
-use Rattle.uv_names.proofs.Names.{◌≡◌, Option, Some, None, refl, ap, sym, ◌∙◌, map, option_map, Event, Id, Var, Callback, Seen, Named, count_of, counted, held, next_free, Program, Body, Run, Place, Main, Running, State, live_id, named, with_id, with_named, Next, Moves, Refuses, next}
+use Rattle.uv_names.proofs.Names.{◌≡◌, Option, Some, None, refl, ap, sym, ◌∙◌, map, option_map, Event, Id, Var, Callback, Seen, Named, count_of, counted, held, next_free, Program, Body, Run, Place, Main, Running, State, live_id, named, with_id, with_named, Moves, next}
+use Rattle.uv_alike.specs.Changed.{state_map}
 use Rattle.uv_model.specs.Next as steps
 use Rattle.uv_names.proofs.Changed.{as_is, changed, changed_body, changed_run, changed_place, Hides, named_changed, with_named_changed}
 use Rattle.uv_names.proofs.Walk.{SeesAlike, step_alike}
@@ -10,11 +11,6 @@ rebound_name g x = record x { id = option_map g x.id }
 
 abbrev pub rebound : (Id → Id) → State → State
 rebound g s = record s { names = map (rebound_name g) s.names }
-
--- the state after a step, with its names bound to other ids
-abbrev pub rebound_next : (Id → Id) → Next → Next
-rebound_next g (Moves u line) = Moves (rebound g u) line
-rebound_next g (Refuses why) = Refuses why
 
 -- other ids that no step from this state can tell
 pub record HidesIds (g : Id → Id) (s : State) : Type 0 where
@@ -54,7 +50,8 @@ module _ (g : Id → Id) where
       live_same (Some id) = can.live id
 
   call_alike : (p : Program) (u : State) (run : Run) (kind : Callback) (v : Var) (line : Seen) →
-      steps.calls p (changed (rebound_name g) as_is as_is u) (changed_run as_is run) kind v line ≡ rebound_next g (steps.calls p u run kind v line)
+      steps.calls p (changed (rebound_name g) as_is as_is u) (changed_run as_is run) kind v line
+      ≡ state_map (rebound g) (steps.calls p u run kind v line)
   call_alike p u run kind v line =
       let f = rebound_name g in
       let y = named u v in
@@ -66,7 +63,7 @@ module _ (g : Id → Id) where
       ∙ ap (λ (t : State). Moves (record t { place = Running (record run { body = body }) }) (Some line))
       (with_named_changed f as_is as_is u v (record y { calls = calls }))
 
-  sees : (p : Program) → SeesAlike p (rebound_name g) as_is as_is as_is (rebound_next g)
+  sees : (p : Program) → SeesAlike p (rebound_name g) as_is as_is as_is (state_map (rebound g))
   sees p = record {
     refuses = λ why. refl;
     stays = λ u line. ap (λ t. Moves t line) (as_changed u);
@@ -75,6 +72,6 @@ module _ (g : Id → Id) where
     goes = λ u run kind v call number line. refl;
   }
 
-  pub next_rebound : (p : Program) (s : State) → HidesIds g s → (e : Event) → next p (rebound g s) e ≡ rebound_next g (next p s e)
+  pub next_rebound : (p : Program) (s : State) → HidesIds g s → (e : Event) → next p (rebound g s) e ≡ state_map (rebound g) (next p s e)
   next_rebound p s can e = ap (λ u. next p u e) (sym (as_changed s))
-      ∙ step_alike p (rebound_name g) as_is as_is (rebound_next g) (sees p) s (hides s can) e
+      ∙ step_alike p (rebound_name g) as_is as_is (state_map (rebound g)) (sees p) s (hides s can) e

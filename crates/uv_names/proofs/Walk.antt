@@ -1,12 +1,12 @@
 -- A step of the loop from a state whose names are changed so that no step can tell: it is a change of the state.
-use Rattle.uv_names.proofs.Names.{◌≡◌, ◌∙◌, ℕ, List, Option, Some, refl, ap, ap₂, sym, arith, slice_set, Event, Id, Var, Callback, Seen, Moves, State, named, live, Place, Main, Running, Run, held, Named, Program, Content, map, map-id, map-set, length-map, Next, next, Refuses, Change, same, Comes, changed, changed_content, changed_live, changed_run, changed_place, changed_line, Hides, IsWhole, Why}
+use Rattle.uv_names.proofs.Names.{◌≡◌, ◌∙◌, ℕ, List, Option, Some, refl, ap, ap₂, sym, arith, slice_set, Event, Id, Var, Callback, Seen, Moves, State, named, live, Place, Main, Running, Run, held, Named, Program, Content, map, map-id, map-set, length-map, Next, next, Refuses, Change, Comes, changed, changed_content, changed_live, changed_run, changed_place, changed_line, Hides, IsWhole, Why}
 use Rattle.uv_work.specs.declared.content.Content.TheVariants as content
 use Rattle.uv_model.specs.Next as steps
 use Rattle.uv_names.proofs.Changed as of_names
 use Rattle.uv_names.proofs.Changed.{live_changed, named_changed}
-use Rattle.uv_alike.specs.Hides.{SeesAlike as SeesChanged}
-use Rattle.uv_alike.proofs.Same.{work_same, option_same, lines_same, lists_same, main_same, event_same, stage_same}
-use Rattle.uv_alike.proofs.Walk.{next_alike}
+use Rattle.uv_alike.specs.Changed.{unchanged}
+use Rattle.uv_alike.proofs.Same.{work_same, option_same, lines_same, lists_same, main_same, event_same, stage_same, times_same}
+use Rattle.uv_alike.proofs.Walk.{next_alike, SeesAlike as SeesChanged}
 
 -- two ways to look at a step, by which one from a changed state is one from the state itself: where it moves, and where a callback begins
 pub record SeesAlike (p : Program) (f : Named → Named) (c : ℕ → ℕ) (r : List (Option Id) → List (Option Id)) (left right : Next → Next) : Type 0 where
@@ -24,23 +24,7 @@ pub record SeesAlike (p : Program) (f : Named → Named) (c : ℕ → ℕ) (r : 
 
 module _ (f : Named → Named) (c : ℕ → ℕ) (r : List (Option Id) → List (Option Id)) where
   abbrev pub by_named : Change
-  by_named = record {
-    var = λ v. v;
-    id = λ x. x;
-    slots = λ slots. slots;
-    free = λ ns. ns;
-    due = λ due. due;
-    due_in = λ active k due. due;
-    time = λ n. n;
-    clock = λ n. n;
-    start = λ n. n;
-    names = map f;
-    count = c;
-    waits = map (λ x. x);
-    runs = r;
-    ends = map (λ x. x);
-    work = same;
-  }
+  by_named = record unchanged { names = map f; count = c; runs = r }
 
   content_same : (x : Content) → changed_content by_named x ≡ x
   content_same (content.Handle h) = refl
@@ -57,17 +41,7 @@ module _ (f : Named → Named) (c : ℕ → ℕ) (r : List (Option Id) → List 
     keeps = refl;
     pends = refl;
     uses = refl;
-    order = λ a b. refl;
-    passed = λ a. refl;
-    left = λ a. refl;
-    rests = λ active k due e. refl;
-    ticks = λ k due e. refl;
-    more = refl;
-    repeats = λ x h e. refl;
-    starts = λ at v timeout repeat e. refl;
-    fires = λ t e due. refl;
-    falls = λ t e due. refl;
-    waits = λ n. refl;
+    times = times_same p s;
     known = λ v. search length-map;
     binds = λ v x e. ap (λ (n : Named). slice_set (map f s.names) v.0 (record n { id = Some x }))
         (named_changed f of_names.as_is of_names.as_is s v can.unbound)

@@ -12,7 +12,6 @@ use Rattle.uv_model.specs.declared.place.Run.{Run}
 use Rattle.uv_model.specs.declared.place.Place.{Place}
 use Rattle.uv_model.specs.declared.place.Place.TheVariants.{Main, Running}
 use Rattle.uv_model.specs.State.{State}
-use Rattle.uv_model.specs.Next.{Next, Moves, Refuses}
 
 -- how often each callback was called, or n where it was called more often
 abbrev pub capped_calls : ℕ → Calls → Calls
@@ -34,11 +33,6 @@ capped_place n (Running run) = Running (capped_run n run)
 
 abbrev pub capped : ℕ → State → State
 capped n s = record s { place = capped_place n s.place; names = map (capped_name n) s.names }
-
--- the state after a step, capped; the line says no count
-abbrev pub capped_next : ℕ → Next → Next
-capped_next n (Moves s line) = Moves (capped n s) line
-capped_next n (Refuses why) = Refuses why
 
 -- ---- scripts that tell no call from later ones
 

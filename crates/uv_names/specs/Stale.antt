@@ -5,7 +5,6 @@ use Rattle.uv_records.specs.declared.named.Named.{Named}
 use Rattle.uv_records.specs.declared.slot.Slot.{Slot}
 use Rattle.uv_work.specs.declared.content.Content.{Content}
 use Rattle.uv_model.specs.State.{State}
-use Rattle.uv_model.specs.Next.{Next, Moves, Refuses}
 
 -- an id whose slot has gone on to a later generation gets the one just before that
 abbrev pub staled_by : Id → Option (Slot Content) → Id
@@ -20,8 +19,3 @@ staled_name slots x = record x { id = option_map (staled_id slots) x.id }
 
 abbrev pub staled : State → State
 staled s = record s { names = map (staled_name s.arena.slots) s.names }
-
--- the state after a step, staled
-abbrev pub staled_next : Next → Next
-staled_next (Moves s line) = Moves (staled s) line
-staled_next (Refuses why) = Refuses why

@@ -1,33 +1,26 @@
 -- All times later are a change of the state: a step goes as it does.
-use Rattle.uv_shift.proofs.Names.{◌≡◌, ◌∙◌, ℕ, ◌+◌, ◌&&◌, ◌<◌, Bool, true, Option, Some, None, refl, ap, ap₂, sym, arith, nat_le, Id, Due, Slot, Content, State, Program, named, live, arena_size, held, Place, Moves, Seen, Event, Take, Finish, Tick, map, option_map, ◌^◌, ◌-◌, is_timer, content_keeps, content_pends, is_used, Next, Refuses, By, shift, shift_line, shift_next, ClockFits, list_any, due_cmp, Kind, Main, Running, Body, Change, same, Comes, changed, changed_content, changed_live, changed_body, changed_place, changed_line, changed_next, Hides, IsWhole, IsExact}
+use Rattle.uv_shift.proofs.Names.{◌≡◌, ◌∙◌, ℕ, ◌+◌, ◌&&◌, ◌<◌, true, Option, Some, None, refl, ap, ap₂, sym, arith, nat_le, Id, Due, Content, State, Program, named, live, arena_size, held, Place, Seen, Event, Take, Finish, Tick, map, option_map, ◌^◌, ◌-◌, is_timer, content_keeps, content_pends, is_used, By, shift, shift_line, ClockFits, due_cmp, Kind, Main, Running, Body, Change, Comes, changed, changed_content, changed_live, changed_body, changed_place, changed_line, Hides, IsWhole, IsExact, next_map}
 use Rattle.std.proofs.lemmas.List.{map-id}
 use Rattle.uv_script.specs.declared.op.Op.TheVariants as op
 use Rattle.uv_records.specs.Dues.{due_after}
 use Rattle.uv_work.specs.declared.content.Content.TheVariants as content
 use Rattle.uv_model.specs.Next.{next}
 use Rattle.uv_shift.proofs.Later.{CanShift, shift_due, shift_if, shift_content, shift_place}
+use Rattle.uv_alike.specs.Changed.{Times, unchanged}
 use Rattle.uv_alike.proofs.Same.{work_same, option_same, any_same, lines_same, lists_same, main_same, event_same, runs_same}
 use Rattle.uv_alike.proofs.Mapped.{slot_of, held_mapped, turns_mapped, finds_mapped, takes_mapped, frees_mapped, live_mapped}
 use Rattle.uv_alike.proofs.Exact.{next_exact}
 
-abbrev pub by_later : By → Change
-by_later d = record {
-  var = λ v. v;
-  id = λ x. x;
-  slots = map (slot_of (shift_content d));
-  free = λ ns. ns;
+abbrev times_later : By → Times
+times_later d = record {
   due = shift_due d;
   due_in = λ active k due. shift_if (active && is_timer k) d due;
   time = λ n. n + d.ms;
-  clock = λ n. n + d.ms;
   start = λ n. n + d.starts;
-  names = λ ns. ns;
-  count = λ n. n;
-  waits = map (λ x. x);
-  runs = λ rs. rs;
-  ends = map (λ x. x);
-  work = same;
 }
+
+abbrev pub by_later : By → Change
+by_later d = record unchanged { slots = map (slot_of (shift_content d)); times = times_later d; clock = λ n. n + d.ms }
 
 module _ (d : By) where
   content_same : (x : Content) → shift_content d x ≡ changed_content (by_later d) x
@@ -37,11 +30,6 @@ module _ (d : By) where
   live_same : (x : Option (Id × Content)) → option_map (λ (t : Id × Content). (t.0, shift_content d t.1)) x ≡ option_map (changed_live (by_later d)) x
   live_same None = refl
   live_same (Some t) = ap (λ x. Some (t.0, x)) (content_same t.1)
-
-  keeps : (test : Option Content → Bool) → ((x : Option Content) → test (option_map (shift_content d) x) ≡ test x) → (s : State) →
-      list_any (λ (slot : Slot Content). test slot.content) (map (slot_of (shift_content d)) s.arena.slots)
-      ≡ list_any (λ (slot : Slot Content). test slot.content) s.arena.slots
-  keeps test same s = any_same (shift_content d) test same s.arena.slots
 
   order_later : (a b : Due) → due_cmp (shift_due d a) (shift_due d b) ≡ due_cmp a b
   order_later a b = grind arith
@@ -67,20 +55,22 @@ module _ (d : By) where
         same = λ a b. refl;
         finds = finds_mapped f s.arena;
         takes = λ x new e. rw (sym (content_same new)) (takes_mapped f x new s.arena);
-        keeps = keeps content_keeps (λ x. grind arith) s;
-        pends = keeps content_pends (λ x. grind arith) s;
-        uses = keeps is_used (λ x. grind arith) s;
-        order = order_later;
-        passed = λ a. le_later a.at s.time;
-        left = λ a. left_later a.at s.time;
-        rests = λ active k due e. rw e refl;
-        ticks = if_timer;
-        more = omega arith;
-        repeats = λ x h e. due_later s.time s.next_start h.repeat (can.repeats x h e);
-        starts = λ at v timeout repeat e. due_later s.time s.next_start timeout (can.starts at (op.Start v timeout repeat) e);
-        fires = λ t e due. if_timer t.1.kind due (can.ready t e);
-        falls = λ t e due. if_timer t.1.kind due (can.first t e);
-        waits = λ n. omega arith;
+        keeps = any_same f content_keeps (λ x. grind arith) s.arena.slots;
+        pends = any_same f content_pends (λ x. grind arith) s.arena.slots;
+        uses = any_same f is_used (λ x. grind arith) s.arena.slots;
+        times = record {
+          order = order_later;
+          passed = λ a. le_later a.at s.time;
+          left = λ a. left_later a.at s.time;
+          rests = λ active k due e. rw e refl;
+          ticks = if_timer;
+          more = omega arith;
+          repeats = λ x h e. due_later s.time s.next_start h.repeat (can.repeats x h e);
+          starts = λ at v timeout repeat e. due_later s.time s.next_start timeout (can.starts at (op.Start v timeout repeat) e);
+          fires = λ t e due. if_timer t.1.kind due (can.ready t e);
+          falls = λ t e due. if_timer t.1.kind due (can.first t e);
+          waits = λ n. omega arith;
+        };
         known = λ v. refl;
         binds = λ v x e. refl;
         lines = λ kind v n. lines_same (by_later d) (λ v. refl) (λ t. refl) _;
@@ -118,11 +108,6 @@ module _ (d : By) where
   line_same : (p : Program) (line : Seen) → changed_line (by_later d) p line ≡ shift_line p d line
   line_same p line = grind arith
 
-  next_same : (p : Program) (x : Next) → changed_next (by_later d) p x ≡ shift_next p d x
-  next_same p (Moves s None) = ap (λ u. Moves u None) (changed_same s)
-  next_same p (Moves s (Some line)) = ap₂ (λ u l. Moves u (Some l)) (changed_same s) (line_same p line)
-  next_same p (Refuses why) = refl
-
   exact : (p : Program) (s : State) → IsExact (by_later d) p s
   exact p s = record {
     bound = λ x. x;
@@ -139,7 +124,8 @@ module _ (d : By) where
   ticks s e fits = tt
 
   pub next_later : (p : Program) (s : State) (e : Event) → CanShift p d s → ClockFits (shift d s) e →
-      next p (shift d s) e ≡ shift_next p d (next p s e)
+      next p (shift d s) e ≡ next_map (shift d) (shift_line p d) (next p s e)
   next_later p s e can fits =
       ap₂ (next p) (sym (changed_same s)) (sym (event_same (by_later d) (λ v. refl) e))
-      ∙ next_exact (by_later d) p s (exact p s) (hides_later p s can) (whole_later p s) e (ticks s e fits) ∙ next_same p (next p s e)
+      ∙ next_exact (by_later d) p s (exact p s) (hides_later p s can) (whole_later p s) e (ticks s e fits)
+      ∙ (λ i. next_map (λ u. changed_same u i) (λ l. line_same p l i) (next p s e))

@@ -11,7 +11,7 @@ use Rattle.uv_shift.proofs.Slots.{first_due_held}
 
 -- ---- the loop's time, after however many steps
 
-state_bounded : (p : Program) (n : ℕ) (s : State) (e : Event) → IsBounded n s → IsBounded (suc n) (state_of s (next p s e))
+pub state_bounded : (p : Program) (n : ℕ) (s : State) (e : Event) → IsBounded n s → IsBounded (suc n) (state_of s (next p s e))
 state_bounded p n s e h = kept (next p s e) (next_bounded p n s e h) where
   kept : (x : Next) → StaysBounded (suc n) x → IsBounded (suc n) (state_of s x)
   kept x k = grind arith

@@ -1,5 +1,5 @@
 -- A step of the loop where all times are later.
-use Rattle.uv_shift.proofs.Names.{◌≡◌, ℕ, ◌+◌, Option, ap, sym, ◌∙◌, arith, Event, Tick, Seen, Program, State, Moves, ◌≤◌, Next, Refuses, option_map, LATEST, By, shift, shift_next, TimesFit, ClockFits, IsMoved}
+use Rattle.uv_shift.proofs.Names.{◌≡◌, ℕ, ◌+◌, Option, ap, sym, ◌∙◌, arith, Event, Tick, Seen, Program, State, Moves, ◌≤◌, Next, Refuses, option_map, LATEST, By, shift, TimesFit, ClockFits, IsMoved, next_map, shift_line}
 use Rattle.uv_model.specs.Next.{next}
 use Rattle.uv_shift.proofs.Later.{CanShift, shift_handle}
 use Rattle.uv_shift.proofs.Cases.{if_shift}
@@ -16,12 +16,13 @@ can_shift p d s h = record {
 }
 
 pub next_shift : (p : Program) (d : By) (s : State) (e : Event) → TimesFit p (shift d s) → ClockFits (shift d s) e →
-    next p (shift d s) e ≡ shift_next p d (next p s e)
+    next p (shift d s) e ≡ next_map (shift d) (shift_line p d) (next p s e)
 next_shift p d s e h k = next_later d p s e (can_shift p d s h) k
 
 -- ---- a step that is taken later is taken earlier, too, whatever the clock's limit
 
-moved_as : (p : Program) (d : By) (x : Next) (t : State) (line : Option Seen) → shift_next p d x ≡ Moves t line → IsMoved p d x t line
+moved_as : (p : Program) (d : By) (x : Next) (t : State) (line : Option Seen) →
+    next_map (shift d) (shift_line p d) x ≡ Moves t line → IsMoved p d x t line
 moved_as p d (Refuses w) t line same = absurd (let f : ⊥ = cc in f)
 moved_as p d (Moves u says) t line same = grind arith
 

@@ -22,7 +22,6 @@ use Rattle.uv_model.specs.declared.place.Run.{Run}
 use Rattle.uv_model.specs.declared.place.Stage.{Stage}
 use Rattle.uv_model.specs.declared.place.Stage.TheVariants.{Poll}
 use Rattle.uv_model.specs.State.{State}
-use Rattle.uv_model.specs.Next.{Next, Moves, Refuses}
 
 -- what becomes of a time, in ms, and of the number of a start
 pub record Retiming : Type 0 where
@@ -85,9 +84,3 @@ retimed_answer r o a = a
 abbrev pub retimed_line : Program → Retiming → Seen → Seen
 retimed_line p r (seen.Op site a) = seen.Op site (retimed_answer r (op_at p site) a)
 retimed_line p r line = line
-
--- ---- what a step does
-
-abbrev pub retimed_next : Program → Retiming → Next → Next
-retimed_next p r (Moves s line) = Moves (retimed r s) (option_map (retimed_line p r) line)
-retimed_next p r (Refuses why) = Refuses why

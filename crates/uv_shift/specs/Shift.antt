@@ -13,7 +13,7 @@ use Rattle.uv_records.specs.Handles.{is_timer}
 use Rattle.uv_model.specs.Limits.{LATEST}
 use Rattle.uv_model.specs.State.{State, handle, front}
 use Rattle.uv_model.specs.Next.{Next, Moves, first_due}
-use Rattle.uv_shift.specs.Retimed.{Retiming, retimed, retimed_line, retimed_next}
+use Rattle.uv_shift.specs.Retimed.{Retiming, retimed, retimed_line}
 
 -- by how much: the times, in ms, and the numbers of starts
 pub record By : Type 0 where
@@ -28,9 +28,6 @@ shift d s = retimed (later d) s
 
 abbrev pub shift_line : Program → By → Seen → Seen
 shift_line p d line = retimed_line p (later d) line
-
-abbrev pub shift_next : Program → By → Next → Next
-shift_next p d x = retimed_next p (later d) x
 
 -- ---- where a step is that of the earlier state, moved
 

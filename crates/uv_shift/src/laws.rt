@@ -8,7 +8,8 @@ ghost use Rattle.uv_model.specs.Next.{Moves, next};
 ghost use Rattle.uv_model.specs.After.{after};
 ghost use Rattle.uv_model.specs.Limits.{LATEST};
 ghost use Rattle.uv_order.specs.Active.{AreTimers};
-ghost use Rattle.uv_shift.specs.Shift.{By, shift, shift_next, TimesFit, ClockFits, IsMoved, IsShort};
+ghost use Rattle.uv_shift.specs.Shift.{By, shift, shift_line, TimesFit, ClockFits, IsMoved, IsShort};
+ghost use Rattle.uv_alike.specs.Changed.{next_map};
 ghost use Rattle.uv_shift.specs.Earliest.{base, earliest, IsTimed};
 
 /// For every script, state and event: a step from a state whose times are all later by as many ms is the step from the state itself,
@@ -16,7 +17,7 @@ ghost use Rattle.uv_shift.specs.Earliest.{base, earliest, IsTimed};
 /// does nothing, and is called for its clause.
 pub fn times_shift()
     ensures { (p : Program) (d : By) (s : State) (e : Event) → TimesFit p (shift d s) → ClockFits (shift d s) e →
-        next p (shift d s) e ≡ shift_next p d (next p s e) }
+        next p (shift d s) e ≡ next_map (shift d) (shift_line p d) (next p s e) }
 {}
 
 /// What the later state takes the state itself takes, wherever the clock's limit is: that refuses only the later one. It does nothing,

@@ -1,7 +1,7 @@
 -- Names that forget in which slot that was which is gone.
-use Rattle.uv_slots.proofs.Names.{if◌then◌else◌, Bool, List, None, Option, Some, [], ap, ap₂, arith, false, length, not, refl, suc, sym, true, ℕ, ◌&&◌, ◌+◌, ◌∙◌, ◌∷◌, ◌≡◌, Event, Id, Var, Seen, Moves, State, named, Slots, freed, held, next_id, taken_from, Named, Program, Content, subst, map, option_map, is_some, ◌≤◌, elements, with_held, Next, Refuses, next, dead_id, buried_id, buried_name, buried, buried_next, is_past, CanBury, StaysKept, IsKept}
+use Rattle.uv_slots.proofs.Names.{if◌then◌else◌, Bool, List, None, Option, Some, [], ap, ap₂, arith, false, length, not, refl, suc, sym, true, ℕ, ◌&&◌, ◌+◌, ◌∙◌, ◌∷◌, ◌≡◌, Event, Id, Var, Seen, Moves, State, named, Slots, freed, held, next_id, taken_from, Named, Program, Content, subst, map, option_map, is_some, ◌≤◌, elements, with_held, Next, Refuses, next, dead_id, buried_id, buried_name, buried, is_past, CanBury, StaysKept, IsKept, state_map}
 use Rattle.uv_records.specs.Names as names
-use Rattle.uv_names.proofs.Rebound.{rebound_name, rebound_next, named_rebound, next_rebound}
+use Rattle.uv_names.proofs.Rebound.{rebound_name, named_rebound, next_rebound, rebound}
 use Rattle.uv_alike.proofs.Walked.{next_kept}
 
 -- ---- what is gone stays so
@@ -86,21 +86,21 @@ later_id p dead s t e line beyond is id = by (is_gone s.arena id) refl
         grind arith
 
 pub names_buried : (p : Program) (dead : ℕ) (s : State) (e : Event) → CanBury dead s →
-    buried_next dead (next p (buried dead s) e) ≡ buried_next dead (next p s e)
+    state_map (buried dead) (next p (buried dead s) e) ≡ state_map (buried dead) (next p s e)
 names_buried p dead s e can =
     let g = gone_id dead s.arena in
-    ap (λ (ns : List Named). buried_next dead (next p (record s { names = ns }) e))
+    ap (λ (ns : List Named). state_map (buried dead) (next p (record s { names = ns }) e))
     (same_names (buried_id dead s.arena.slots) g s.names (λ n id bound. gone_same dead s.arena id (can.past (record { 0 = n }) id bound)))
-    ∙ ap (buried_next dead) (next_rebound g p s (grind (arith, dead_gone, elements)) e) ∙ by (next p s e) refl
+    ∙ ap (state_map (buried dead)) (next_rebound g p s (grind (arith, dead_gone, elements)) e) ∙ by (next p s e) refl
   where
-    by : (x : Next) → next p s e ≡ x → buried_next dead (rebound_next (gone_id dead s.arena) x) ≡ buried_next dead x
+    by : (x : Next) → next p s e ≡ x → state_map (buried dead) (state_map (rebound (gone_id dead s.arena)) x) ≡ state_map (buried dead) x
     by (Refuses why) is = refl
     by (Moves t line) is = ap (λ (ns : List Named). Moves (record t { names = ns }) line)
         (again (buried_id dead t.arena.slots) (gone_id dead s.arena) t.names (later_id p dead s t e line can.beyond is))
 
 pub alike_buried : (p : Program) (dead : ℕ) (s t : State) (e : Event) → CanBury dead s → CanBury dead t → buried dead s ≡ buried dead t →
-    buried_next dead (next p s e) ≡ buried_next dead (next p t e)
-alike_buried p dead s t e can can_too same = sym (names_buried p dead s e can) ∙ ap (λ (u : State). buried_next dead (next p u e)) same
+    state_map (buried dead) (next p s e) ≡ state_map (buried dead) (next p t e)
+alike_buried p dead s t e can can_too same = sym (names_buried p dead s e can) ∙ ap (λ (u : State). state_map (buried dead) (next p u e)) same
     ∙ names_buried p dead t e can_too
 
 -- ---- what buried names tell

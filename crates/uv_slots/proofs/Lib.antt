@@ -1,6 +1,5 @@
 pub mod Names
 pub mod Orders
-pub mod Relabel
 pub mod RelabeledSlots
 pub mod Relabeling
 pub mod Arranging
@@ -8,7 +7,7 @@ mod Naming
 pub mod Whole
 pub mod Grows
 pub mod Moved
-mod Named
+pub mod Named
 pub mod Reached
 pub mod Buries
 pub mod Keeping

@@ -1,5 +1,5 @@
 -- An order of all slots, once their numbers are where another order puts them.
-use Rattle.uv_slots.proofs.Names.{◌≡◌, ℕ, suc, ◌<◌, List, ◌∷◌, length, Some, slice_get, arith, slice_get_cases, times, IsOrder, place_in, place_of}
+use Rattle.uv_slots.proofs.Names.{◌≡◌, ℕ, suc, List, ◌∷◌, Some, slice_get, arith, slice_get_cases, times, IsOrder, place_in, place_of}
 use Rattle.uv_slots.proofs.Orders.{place_behind, number_at}
 
 -- ---- what stands at a place

@@ -1,10 +1,10 @@
 -- Names in another order, as a change: names that are alike may change places.
-use Rattle.uv_slots.proofs.Names.{if◌then◌else◌, ◌≡◌, ◌∙◌, ℕ, suc, ◌+◌, List, [], ◌∷◌, length, drop, arith, refl, ap, sym, Bool, Option, Some, None, list_any, slice_get, slice_set, nat_lt, Id, Var, Slot, Content, State, Program, Named, named, live, live_id, unbound, lines_in, Event, Take, Finish, Tick, arena_size, held, map, option_map, unwrap_or, is_some, drop-map, slice_get-map, is_for, next_line, content_keeps, content_pends, is_used, next, place_of, arranged_slots, Comes, changed, changed_content, changed_live, changed_callback, changed_body, changed_event, changed_next, Hides, IsWhole, IsExact, work_same, any_same, runs_same, next_exact, CallbackLine, Callback}
+use Rattle.uv_slots.proofs.Names.{if◌then◌else◌, ◌≡◌, ◌∙◌, ℕ, suc, ◌+◌, List, [], ◌∷◌, length, drop, arith, refl, ap, sym, Option, Some, None, slice_get, slice_set, nat_lt, Id, Var, Content, State, Program, Named, named, live, live_id, unbound, lines_in, Event, Take, Finish, Tick, arena_size, held, map, option_map, unwrap_or, is_some, drop-map, slice_get-map, is_for, next_line, content_keeps, content_pends, is_used, next, place_of, arranged_slots, Comes, changed, changed_content, changed_live, changed_callback, changed_body, changed_event, Hides, IsWhole, IsExact, work_same, any_same, runs_same, next_exact, CallbackLine, Callback, times_same, next_map, changed_line}
 use Rattle.uv_work.specs.declared.content.Content.TheVariants as content
 use Rattle.uv_model.specs.Next as steps
 use Rattle.uv_slots.proofs.Orders.{Fits, get_arranged, set_arranged}
 use Rattle.uv_slots.specs.Alike.{moved_var, moved_content, by_names, AreAlike}
-use Rattle.uv_alike.proofs.Mapped.{slot_of, held_mapped, turns_mapped, finds_mapped, takes_mapped, frees_mapped, live_mapped}
+use Rattle.uv_alike.proofs.Mapped.{held_mapped, turns_mapped, finds_mapped, takes_mapped, frees_mapped, live_mapped}
 
 in_range : {X : Type 0} (xs : List X) (n : ℕ) → nat_lt n (length xs) ≡ is_some (slice_get xs n)
 in_range (x ∷ xs) (suc n) = grind (arith, (in_range xs n))
@@ -25,11 +25,6 @@ module _ (o : List ℕ) where
   named_moved : (u : State) (v : Var) → Fits o u.names → named (changed (by_names o) u) (moved_var o v) ≡ named u v
   named_moved u v fits = ap (λ x. unwrap_or x unbound) (get_arranged o u.names v.0 fits)
 
-  keeps : (test : Option Content → Bool) → ((x : Option Content) → test (option_map (moved_content o) x) ≡ test x) → (s : State) →
-      list_any (λ (slot : Slot Content). test slot.content) (map (slot_of (moved_content o)) s.arena.slots)
-      ≡ list_any (λ (slot : Slot Content). test slot.content) s.arena.slots
-  keeps test same s = any_same (moved_content o) test same s.arena.slots
-
   hides_names : (p : Program) (s : State) → AreAlike p o s → Hides (by_names o) p s
   hides_names p s alike =
       let f = moved_content o in
@@ -38,20 +33,10 @@ module _ (o : List ℕ) where
         same = λ a b. refl;
         finds = finds_mapped f s.arena;
         takes = λ x new e. rw (sym (content_same new)) (takes_mapped f x new s.arena);
-        keeps = keeps content_keeps (λ x. grind arith) s;
-        pends = keeps content_pends (λ x. grind arith) s;
-        uses = keeps is_used (λ x. grind arith) s;
-        order = λ a b. refl;
-        passed = λ a. refl;
-        left = λ a. refl;
-        rests = λ active k due e. refl;
-        ticks = λ k due e. refl;
-        more = refl;
-        repeats = λ x h e. refl;
-        starts = λ at v timeout repeat e. refl;
-        fires = λ t e due. refl;
-        falls = λ t e due. refl;
-        waits = λ n. refl;
+        keeps = any_same f content_keeps (λ x. grind arith) s.arena.slots;
+        pends = any_same f content_pends (λ x. grind arith) s.arena.slots;
+        uses = any_same f is_used (λ x. grind arith) s.arena.slots;
+        times = times_same p s;
         known = λ v. in_range (arranged_slots o s.names) (place_of o v.0) ∙ ap is_some (get_arranged o s.names v.0 at) ∙ sym (in_range s.names v.0);
         binds = λ v x e. ap (λ (n : Named). slice_set (arranged_slots o s.names) (place_of o v.0) (record n { id = Some x })) (named_moved s v at)
             ∙ set_arranged o s.names v.0 (record (named s v) { id = Some x }) at;
@@ -102,7 +87,7 @@ module _ (o : List ℕ) where
 
   -- a step from the state whose alike names have changed places is the step from the state itself, so changed
   pub next_moved : (p : Program) (s : State) (e : Event) → AreAlike p o s →
-      next p (changed (by_names o) s) (changed_event (by_names o) e) ≡ changed_next (by_names o) p (next p s e)
+      next p (changed (by_names o) s) (changed_event (by_names o) e) ≡ next_map (changed (by_names o)) (changed_line (by_names o) p) (next p s e)
   next_moved p s e alike = next_exact (by_names o) p s (exact p s alike) (hides_names p s alike) (whole_names p s alike) e (by e) where
     by : (e : Event) → Comes (by_names o) s e
     by (Tick ms) = (refl, refl)

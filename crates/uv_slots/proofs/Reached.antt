@@ -1,19 +1,14 @@
 -- Each state that few steps lead to is tidy.
 use Rattle.uv_slots.proofs.Names.{◌≡◌, ℕ, suc, ◌+◌, ◌<◌, List, [], ◌∷◌, length, Some, ap, arith, Id, Event, Content, Program, State, arena_size, held, elements, ◌≤◌, option_map, fresh, goes_on, state_of, Next, next, name_in, AreDeclared, IsTidy, StaysKept, next_kept}
 use Rattle.uv_model.specs.After.{after}
-use Rattle.uv_model.proofs.Bounded.{next_bounded}
-use Rattle.uv_model.proofs.Counting.{IsBounded, StaysBounded, slot_freed}
+use Rattle.uv_model.proofs.Counting.{IsBounded, slot_freed}
+use Rattle.uv_shift.proofs.Reached.{state_bounded}
 use Rattle.uv_slots.proofs.Named.{Agree, is_there, counted_agree, turned_agree, made_agree, freed_agree}
 
 abbrev count_of : Program → ℕ
 count_of p = length p.callbacks
 
 -- ---- a step
-
-state_bounded : (p : Program) (n : ℕ) (s : State) (e : Event) → IsBounded n s → IsBounded (suc n) (state_of s (next p s e))
-state_bounded p n s e h = kept (next p s e) (next_bounded p n s e h) where
-  kept : (x : Next) → StaysBounded (suc n) x → IsBounded (suc n) (state_of s x)
-  kept x k = grind arith
 
 held_freed : (n : ℕ) (s : State) (id : Id) (x : Content) → IsBounded n s → held s.arena.slots id ≡ Some x → id.generation ≤ n
 held_freed n s id x h e =

@@ -1,29 +1,32 @@
 -- Slots and ids that are named anew are a change of the state: a step goes as it does.
-use Rattle.uv_slots.proofs.Names.{◌≡◌, ◌∙◌, ap, ap₂, sym, arith, Option, Some, None, refl, Id, Content, State, Program, Seen, Event, Moves, held, map, option_map, length-map, map-set, slice_get-map, Take, Finish, Tick, content_keeps, content_pends, is_used, Next, Refuses, next, Change, same, changed, changed_content, changed_live, changed_body, changed_run, changed_place, changed_line, changed_next, Comes, Hides, IsWhole, IsExact, work_same, option_same, lines_same, main_same, event_same, stage_same, next_exact, Body, Place, Main, Running, Run}
+use Rattle.uv_slots.proofs.Names.{◌≡◌, ◌∙◌, ap, ap₂, sym, arith, Option, Some, None, refl, Id, Content, State, Program, Seen, Event, held, map, option_map, length-map, map-set, slice_get-map, Take, Finish, Tick, content_keeps, content_pends, is_used, next, Change, changed, changed_content, changed_live, changed_body, changed_run, changed_place, changed_line, Comes, Hides, IsWhole, IsExact, work_same, option_same, lines_same, main_same, event_same, stage_same, next_exact, Body, Place, Main, Running, Run, times_same, unchanged, Bool, list_any, Slot, arena_size, with_held, next_free, same_id, taken, freed, Labels, relabeled, relabeled_arena, relabeled_named, relabeled_line, next_map}
 use Rattle.uv_work.specs.declared.content.Content.TheVariants as content
-use Rattle.uv_slots.proofs.Relabel.{Relabel, CanRelabel, relabeled, relabeled_named, relabeled_line, relabeled_next}
 use Rattle.uv_slots.proofs.RelabeledSlots.{live_relabeled, named_relabeled}
 
-abbrev pub by_relabel : Relabel → Change
-by_relabel o = record {
-  var = λ v. v;
+-- a step from this state can't tell, where slots and ids are named anew
+pub record CanRelabel (o : Labels) (p : Program) (s : State) : Type 0 where
+  pub same : (a b : Id) → same_id (o.id a) (o.id b) ≡ same_id a b
+  pub holds : (x : Id) → held (o.slots s.arena.slots) (o.id x) ≡ held s.arena.slots x
+  pub turns : (x : Id) (c : Content) → with_held (o.slots s.arena.slots) (o.id x) c ≡ o.slots (with_held s.arena.slots x c)
+  pub any : (test : Option Content → Bool) → list_any (λ (slot : Slot Content). test slot.content) (o.slots s.arena.slots)
+      ≡ list_any (λ (slot : Slot Content). test slot.content) s.arena.slots
+  pub finds : next_free (relabeled_arena o s.arena) ≡ option_map o.id (next_free s.arena)
+  pub takes : (x : Id) (c : Content) → taken (o.id x) c (relabeled_arena o s.arena) ≡ relabeled_arena o (taken x c s.arena)
+  pub frees : (x : Id) (c : Content) → held s.arena.slots x ≡ Some c → freed (arena_size p).last_generation (o.id x) (relabeled_arena o s.arena)
+      ≡ relabeled_arena o (freed (arena_size p).last_generation x s.arena)
+
+abbrev pub by_relabel : Labels → Change
+by_relabel o = record unchanged {
   id = o.id;
   slots = o.slots;
   free = o.free;
-  due = λ due. due;
-  due_in = λ active k due. due;
-  time = λ n. n;
-  clock = λ n. n;
-  start = λ n. n;
   names = map (relabeled_named o);
-  count = λ n. n;
   waits = map o.id;
   runs = map (option_map o.id);
   ends = map o.id;
-  work = same;
 }
 
-module _ (o : Relabel) where
+module _ (o : Labels) where
   content_same : (x : Content) → changed_content (by_relabel o) x ≡ x
   content_same (content.Handle h) = refl
   content_same (content.Request r) = refl
@@ -34,23 +37,13 @@ module _ (o : Relabel) where
 
   hides_relabel : (p : Program) (s : State) → CanRelabel o p s → Hides (by_relabel o) p s
   hides_relabel p s can = record {
-    same = o.same;
-    finds = o.finds s.arena can.fits;
-    takes = λ x new e. rw (content_same new) (o.takes s.arena x new can.fits);
-    keeps = o.any s.arena content_keeps can.fits;
-    pends = o.any s.arena content_pends can.fits;
-    uses = o.any s.arena is_used can.fits;
-    order = λ a b. refl;
-    passed = λ a. refl;
-    left = λ a. refl;
-    rests = λ active k due e. refl;
-    ticks = λ k due e. refl;
-    more = refl;
-    repeats = λ x h e. refl;
-    starts = λ at v timeout repeat e. refl;
-    fires = λ t e due. refl;
-    falls = λ t e due. refl;
-    waits = λ n. refl;
+    same = can.same;
+    finds = can.finds;
+    takes = λ x new e. rw (content_same new) (can.takes x new);
+    keeps = can.any content_keeps;
+    pends = can.any content_pends;
+    uses = can.any is_used;
+    times = times_same p s;
     known = λ v. search length-map;
     binds = λ v x e. search (named_relabeled, map-set);
     lines = λ kind v n. lines_same (by_relabel o) (λ v. refl) (λ t. refl) _;
@@ -60,12 +53,12 @@ module _ (o : Relabel) where
 
   whole_relabel : (p : Program) (s : State) → CanRelabel o p s → IsWhole (by_relabel o) p s
   whole_relabel p s can = record {
-    holds = λ x. o.holds s.arena x can.fits ∙ sym (option_same _ content_same (held s.arena.slots x));
-    turns = λ x old new e. rw (content_same new) (o.turns s.arena x new can.fits);
+    holds = λ x. can.holds x ∙ sym (option_same _ content_same (held s.arena.slots x));
+    turns = λ x old new e. rw (content_same new) (can.turns x new);
     frees = can.frees;
     over = λ n. refl;
     clocks = refl;
-    lives = λ v. live_relabeled o s v can.fits ∙ live_same _;
+    lives = λ v. live_relabeled o s can.holds v ∙ live_same _;
     queued = λ ids. refl;
     ended = λ ids. refl;
   }
@@ -97,21 +90,15 @@ module _ (o : Relabel) where
     count = λ n. refl;
   }
 
-  next_same : (p : Program) (x : Next) → changed_next (by_relabel o) p x ≡ relabeled_next o x
-  next_same p (Moves s None) = ap (λ u. Moves u None) (changed_same s)
-  next_same p (Moves s (Some line)) = ap₂ (λ u l. Moves u (Some l)) (changed_same s) (line_same p line)
-  next_same p (Refuses why) = refl
-
-  next_again : (p : Program) (s : State) (e : Event) → CanRelabel o p s → next p (relabeled o s) e ≡ relabeled_next o (next p s e)
-  next_again p s e can =
+  pub next_relabeled : (p : Program) (s : State) (e : Event) → CanRelabel o p s →
+      next p (relabeled o s) e ≡ next_map (relabeled o) (relabeled_line o) (next p s e)
+  next_relabeled p s e can =
       ap₂ (next p) (sym (changed_same s)) (sym (event_same (by_relabel o) (λ v. refl) e))
-      ∙ next_exact (by_relabel o) p s (exact p s) (hides_relabel p s can) (whole_relabel p s can) e (by e) ∙ next_same p (next p s e)
+      ∙ next_exact (by_relabel o) p s (exact p s) (hides_relabel p s can) (whole_relabel p s can) e (by e)
+      ∙ (λ i. next_map (λ u. changed_same u i) (λ l. line_same p l i) (next p s e))
     where
       by : (e : Event) → Comes (by_relabel o) s e
       by (Tick ms) = (refl, refl)
       by (Take k) = (slice_get-map (option_map o.id) s.running k, λ x. sym (map-set (option_map o.id) s.running k x))
       by (Finish k) = (slice_get-map (option_map o.id) s.running k, λ x. sym (map-set (option_map o.id) s.running k x))
       by e = tt
-
-pub next_relabeled : (p : Program) (o : Relabel) (s : State) (e : Event) → CanRelabel o p s → next p (relabeled o s) e ≡ relabeled_next o (next p s e)
-next_relabeled p o s e can = next_again o p s e can

@@ -1,5 +1,21 @@
 -- The order of a state's slots by its names has each of them once.
-use Rattle.uv_slots.proofs.Names.{◌≡◌, ℕ, zero, suc, ◌<◌, ◌+◌, List, [], ◌∷◌, ◌++◌, length, Option, Some, None, slice_get, refl, ap, sym, ◌∙◌, arith, Id, Var, Slot, Content, Named, State, named, unbound, held, id_of, slice_get_past, slice_get_cases, ◌≤◌, option_map, option_to_list, unwrap_or, times, IsOrder, name_in, slot_bound, slots_bound, named_order, IsTidy}
+use Rattle.uv_slots.proofs.Names.{◌≡◌, ℕ, zero, suc, ◌<◌, ◌+◌, List, [], ◌∷◌, ◌++◌, length, Option, Some, None, slice_get, refl, ap, sym, ◌∙◌, arith, Id, Var, Slot, Content, Named, State, named, unbound, held, id_of, slice_get_past, slice_get_cases, ◌≤◌, option_map, option_to_list, unwrap_or, times, IsOrder, name_in, IsTidy}
+
+-- ---- the order
+
+-- the slot of what a name is bound to, if it holds that still
+abbrev pub slot_bound : List (Slot Content) → Option Id → Option ℕ
+slot_bound slots None = None
+slot_bound slots (Some id) = option_map (λ (x : Content). id.slot) (held slots id)
+
+-- those of these names, in their order
+abbrev pub slots_bound : List Named → List (Slot Content) → List ℕ
+slots_bound [] slots = []
+slots_bound (n ∷ ns) slots = option_to_list (slot_bound slots n.id) ++ slots_bound ns slots
+
+-- the order of a state's slots by its names; those that are free stand behind
+abbrev pub named_order : State → List ℕ
+named_order s = slots_bound s.names s.arena.slots ++ s.arena.free
 
 -- an order of all slots of this list
 pub record IsWhole {X : Type 0} (o : List ℕ) (slots : List X) : Type 0 where
@@ -100,7 +116,7 @@ held_there : (slots : List (Slot Content)) (n : ℕ) (slot : Slot Content) → s
 held_there slots n slot e = grind arith
 
 -- a name that is bound to something stands among the names
-named_there : (o : Option Named) (id : Id) → (unwrap_or o unbound).id ≡ Some id → o ≡ Some (unwrap_or o unbound)
+pub named_there : (o : Option Named) (id : Id) → (unwrap_or o unbound).id ≡ Some id → o ≡ Some (unwrap_or o unbound)
 named_there o id e = grind arith
 
 -- the name of what a slot holds is bound to it, and no other one

@@ -10,7 +10,7 @@ use Rattle.uv_work.specs.declared.content.Content.TheVariants as content
 use Rattle.uv_model.specs.declared.place.Place.TheVariants.{Main}
 use Rattle.uv_model.specs.State.{State}
 use Rattle.uv_slots.specs.Arranged.{IsOrder, place_of, arranged_slots}
-use Rattle.uv_alike.specs.Changed.{Change, same, changed_callback, changed_main}
+use Rattle.uv_alike.specs.Changed.{Change, unchanged, changed_callback, changed_main}
 
 abbrev pub moved_var : List ℕ → Var → Var
 moved_var o v = record { 0 = place_of o v.0 }
@@ -24,23 +24,7 @@ moved_slot o slot = record slot { content = option_map (moved_content o) slot.co
 
 -- each name is told where another one was
 abbrev pub by_names : List ℕ → Change
-by_names o = record {
-  var = moved_var o;
-  id = λ x. x;
-  slots = map (moved_slot o);
-  free = λ ns. ns;
-  due = λ due. due;
-  due_in = λ active k due. due;
-  time = λ n. n;
-  clock = λ n. n;
-  start = λ n. n;
-  names = arranged_slots o;
-  count = λ n. n;
-  waits = map (λ x. x);
-  runs = λ rs. rs;
-  ends = map (λ x. x);
-  work = same;
-}
+by_names o = record unchanged { var = moved_var o; slots = map (moved_slot o); names = arranged_slots o }
 
 -- names that are alike where the state stands: a name has the lines of the one whose place it takes, so renamed, and the main program's
 -- next line names none that takes another place

@@ -8,7 +8,6 @@ use Rattle.uv_records.specs.declared.slot.Slot.{Slot}
 use Rattle.uv_records.specs.Slots.{Slots, held}
 use Rattle.uv_work.specs.declared.content.Content.{Content}
 use Rattle.uv_model.specs.State.{State, named}
-use Rattle.uv_model.specs.Next.{Next, Moves, Refuses}
 use Rattle.uv_slots.specs.Arranged.{times}
 
 -- the one id for all that is gone; `dead` is a number beyond all slots
@@ -28,11 +27,6 @@ buried_name dead slots x = record x { id = option_map (buried_id dead slots) x.i
 
 abbrev pub buried : ℕ → State → State
 buried dead s = record s { names = map (buried_name dead s.arena.slots) s.names }
-
--- the state after a step, with its names buried
-abbrev pub buried_next : ℕ → Next → Next
-buried_next dead (Moves s line) = Moves (buried dead s) line
-buried_next dead (Refuses why) = Refuses why
 
 -- ---- states in which no name is bound to what is still to be made
 

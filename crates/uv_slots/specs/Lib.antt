@@ -1,4 +1,5 @@
+pub mod Relabeled
 pub mod Arranged
-pub mod NamedForm
+pub mod Tidy
 pub mod Buried
 pub mod Alike

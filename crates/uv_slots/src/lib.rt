@@ -1,6 +1,7 @@
 //! Slots in another order, and names that forget the slot of what is gone: the loop goes on alike.
 //!
-//! Its calls have no code: each is a theorem. Read `specs/Arranged.antt`, `specs/NamedForm.antt`, `specs/Buried.antt` and `specs/Alike.antt`.
+//! Its calls have no code: each is a theorem. Read `specs/Relabeled.antt`, `specs/Arranged.antt`, `specs/Tidy.antt`, `specs/Buried.antt` and
+//! `specs/Alike.antt`.
 #![tactic(auto)]
 
 mod buried;

@@ -1,5 +1,5 @@
 -- The bytes of each part of a state tell which one it is.
-use Rattle.uv_state_key.proofs.Names.{arith, ◌≤◌, ◌≡◌, ℕ, ◌+◌, ◌*◌, ◌<◌, ◌==◌, Bool, true, false, List, [], ◌∷◌, ◌++◌, Option, Some, if◌then◌else◌, refl, ap, Id, Kind, HandleRecord, Calls, Named, Walk, Numbers, number_code, Tells, number_small, numbers_tell, byte_tells, pair_tells, part_tells, list_tells, option_tells, settled_back, id_code, ids_code, bit, mode_number, callback_number, stage_part, stage_code, place_code, kind_number, flags_of, walk_code, Mode, Callback, Body, Main, Running, Run, Stage, Collecting, Firing}
+use Rattle.uv_state_key.proofs.Names.{arith, ◌≤◌, ◌≡◌, ℕ, ◌+◌, ◌*◌, ◌<◌, ◌==◌, Bool, true, false, List, [], ◌∷◌, Option, Some, if◌then◌else◌, refl, Id, Kind, HandleRecord, Calls, Named, Walk, Numbers, Tells, number_small, numbers_tell, byte_tells, pair_tells, part_tells, list_tells, option_tells, settled_back, id_code, ids_code, bit, mode_number, callback_number, stage_part, stage_code, place_code, kind_number, flags_of, walk_code, Mode, Callback, Body, Run, Stage, Collecting, Firing}
 use Rattle.uv_ids.specs.declared.phase.Kind.TheVariants as kind
 use Rattle.uv_ids.specs.declared.phase.Mode.TheVariants.{Default, Once, Nowait}
 use Rattle.uv_ids.specs.declared.seen.Callback.TheVariants as callback

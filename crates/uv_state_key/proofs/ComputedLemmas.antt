@@ -1,6 +1,5 @@
 -- What the code computes of a state is by how much its times are later than they have to be.
-use Rattle.uv_state_key.proofs.Names.{arith, ◌≡◌, inl, inr, ℕ, zero, suc, ◌+◌, ◌<◌, List, [], ◌∷◌, length, take, get_or, refl, ap, sym, ◌∙◌, add-one, Option, Some, None, map, min, Id, Due, HandleRecord, held, Content, handle_in, State, Has, IsTimer, or_first, least_start, due_of, due_at, first_at, least_among}
-use Rattle.uv_work.specs.declared.content.Content.TheVariants as content
+use Rattle.uv_state_key.proofs.Names.{arith, ◌≡◌, inl, inr, ℕ, suc, ◌+◌, ◌<◌, List, [], ◌∷◌, length, take, get_or, refl, ap, sym, ◌∙◌, add-one, Option, Some, map, min, Id, Due, HandleRecord, held, Content, handle_in, State, Has, IsTimer, or_first, least_start, due_of, due_at, first_at, least_among}
 
 -- ---- when timers are due
 

@@ -1,5 +1,5 @@
 -- What stands on lists is held by slots: where no slot holds any of it, a list is empty.
-use Rattle.uv_state_key.proofs.Names.{arith, ◌≡◌, ◌⊎◌, inl, inr, ℕ, zero, suc, ◌<◌, Bool, true, false, List, [], ◌∷◌, ◌++◌, length, Option, Some, None, option_and_then, slice_get, if◌then◌else◌, refl, ap, sym, subst, ◌∙◌, append-nil, Event, Id, Kind, Program, HandleRecord, Slot, held, held_in, Content, Request, is_open, after, handle_in, request_in, State, kind_as, watched, has_id, AreAll, AreDistinct, IsActive, IsClosing, IsEnded, run_ids, reached, number_small, AreFew, one_more, and_content, content_at, id_at, id_by, holds_in, held_by, no_holds, and_active, and_closing, and_handle, and_request, and_resting, eqb-true, WatcherKind, is_timer, IsReached}
+use Rattle.uv_state_key.proofs.Names.{arith, ◌≡◌, ◌⊎◌, inl, inr, ℕ, zero, suc, ◌<◌, Bool, true, false, List, [], ◌∷◌, ◌++◌, length, Option, Some, None, slice_get, refl, ap, sym, subst, ◌∙◌, append-nil, Event, Id, Kind, Program, HandleRecord, Slot, held, Content, Request, is_open, after, request_in, State, kind_as, watched, has_id, AreAll, AreDistinct, IsActive, IsClosing, IsEnded, run_ids, reached, number_small, AreFew, one_more, and_content, content_at, id_at, holds_in, held_by, no_holds, and_active, and_closing, and_handle, and_request, and_resting, WatcherKind, is_timer, IsReached}
 use Rattle.uv_ids.specs.declared.phase.Kind.TheVariants as kind
 use Rattle.uv_records.specs.declared.lists.WatcherKind.TheVariants as watcher
 use Rattle.uv_work.specs.declared.content.Content.TheVariants as content

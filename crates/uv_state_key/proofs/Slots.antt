@@ -1,9 +1,9 @@
 -- The bytes of the slots tell what they hold, where the digest of each finished request is that of its task.
-use Rattle.uv_state_key.proofs.Names.{arith, ◌≡◌, ℕ, zero, suc, List, [], ◌∷◌, ◌++◌, Option, Some, None, slice_get, refl, ap, sym, subst, ◌∙◌, Id, Slot, Slots, held, Content, Outcome, Open, Finished, Cancelled, Request, Task, IsDigest, text_of, request_in, number_code, bytes_code, Tells, TellsOf, numbers_tell, byte_tells, bytes_tell, any_tells, pair_tells, pair_tells_of, list_tells, list_tells_of, AllFit, outcome_number, content_code}
+use Rattle.uv_state_key.proofs.Names.{arith, ◌≡◌, ℕ, zero, suc, List, [], ◌∷◌, ◌++◌, Option, Some, None, slice_get, refl, ap, sym, subst, ◌∙◌, Id, Slot, Slots, held, Content, Outcome, Request, Task, IsDigest, text_of, request_in, number_code, bytes_code, Tells, TellsOf, numbers_tell, byte_tells, bytes_tell, any_tells, pair_tells, pair_tells_of, list_tells, list_tells_of, AllFit, outcome_number, content_code}
 use Rattle.uv_work.specs.declared.content.Content.TheVariants as content
 use Rattle.uv_work.proofs.TaskLemmas.{same_task}
 use Rattle.uv_key.specs.Codes.{byte_code}
-use Rattle.uv_state_key.specs.Key.{handle_code, request_code, slot_code, arena_code}
+use Rattle.uv_state_key.specs.Key.{request_code, slot_code, arena_code}
 use Rattle.uv_state_key.proofs.Codes.{handle_tells}
 
 -- ---- requests

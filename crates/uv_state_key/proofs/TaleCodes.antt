@@ -1,5 +1,5 @@
 -- The bytes of what is told, as they are written.
-use Rattle.uv_state_key.proofs.Names.{◌≡◌, ◌<◌, ℕ, true, List, [], ◌∷◌, ◌++◌, refl, ap, ap₂, sym, map, flat_map, length-map, Id, HandleRecord, Calls, Slot, Content, Walk, State, By, name_at, names_at, runs_at, tale_by, walk_at, number_code, number_small, place_code, members_code, members_walk_code, names_walk_code, run_name_code, handle_number, are_few, few_number}
+use Rattle.uv_state_key.proofs.Names.{◌≡◌, ◌<◌, ℕ, true, List, [], ◌∷◌, ◌++◌, refl, ap, ap₂, sym, map, flat_map, length-map, Id, HandleRecord, Calls, Slot, Content, State, By, name_at, names_at, tale_by, number_code, number_small, place_code, members_code, handle_number, are_few, few_number}
 use Rattle.uv_key.specs.Codes.{byte_code, list_code}
 use Rattle.uv_state_key.specs.Key.{numbers_code}
 use Rattle.uv_state_key.specs.Listing.{named_lists_code, named_requests_code, told_state_code, walks_code}

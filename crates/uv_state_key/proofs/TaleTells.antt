@@ -1,9 +1,8 @@
 -- The bytes of what is told of a state tell it, where the digest of each finished request is that of its task.
-use Rattle.uv_state_key.proofs.Names.{arith, ◌≡◌, ◌<◌, ◌≤◌, ◌+◌, ◌*◌, ℕ, Bool, true, false, List, [], ◌∷◌, ◌++◌, Option, Some, None, if◌then◌else◌, refl, ap, sym, ◌∙◌, map, option_map, Id, Kind, HandleRecord, Calls, Named, Slot, Walk, held, Content, Request, text_of, Numbers, Place, request_in, State, run_le, with_run, By, Bound, Nothing, Gone, Told, Tale, bound_by, bound_to, told_name, runs_at, tale_by, as_id, name_at, number_code, bytes_code, Tells, TellsOf, numbers_tell, byte_tells, bytes_tell, any_tells, pair_tells, pair_tells_of, part_tells, list_tells, list_tells_of, settled_back, AllFit, kind_number, flags_of, outcome_number, place_code, handle_number, request_number, bound_code, are_few, few_number, names_walk_code, run_name_code, IsTold}
+use Rattle.uv_state_key.proofs.Names.{arith, ◌≡◌, ◌<◌, ◌≤◌, ◌+◌, ◌*◌, ℕ, true, List, [], ◌∷◌, ◌++◌, Option, Some, None, refl, ap, map, option_map, Id, Kind, HandleRecord, Calls, Named, Slot, Walk, held, Content, Request, text_of, Numbers, Place, request_in, State, with_run, By, Bound, Nothing, Gone, Told, Tale, bound_by, bound_to, told_name, runs_at, tale_by, as_id, name_at, number_code, bytes_code, Tells, TellsOf, numbers_tell, byte_tells, bytes_tell, any_tells, pair_tells, pair_tells_of, part_tells, list_tells, list_tells_of, settled_back, AllFit, kind_number, flags_of, place_code, handle_number, request_number, bound_code, are_few, few_number, names_walk_code, run_name_code, IsTold}
 use Rattle.uv_work.specs.declared.content.Content.TheVariants as content
 use Rattle.uv_tale.specs.Tale.{Holds}
 use Rattle.uv_key.specs.Codes.{byte_code, list_code}
-use Rattle.uv_state_key.specs.Key.{calls_code}
 use Rattle.uv_state_key.specs.TaleKey.{told_handle_code, told_request_code, counts_code, told_code}
 use Rattle.uv_state_key.specs.TaleKey.{names_code, told_watchers_code, told_requests_code, told_lists_code, tale_code}
 use Rattle.uv_state_key.proofs.Codes.{Flags, flags_number, same_flags, bit_small, kind_of, kind_back, calls_tell, place_tells, loop_numbers_tell}

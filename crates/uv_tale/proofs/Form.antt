@@ -1,10 +1,10 @@
 -- The form of a state by its names is made from its tale.
-use Rattle.uv_tale.proofs.Names.{pooled, ◌≡◌, ℕ, List, [], ◌∷◌, true, Option, refl, ap, sym, ◌∙◌, slice_get, slice_get-map, map, option_map, min, Due, Id, Program, arena_size, Place, Main, Running, State, has_id, run_ids, By, base, earlier, earliest, least_start, or_first, or_over, youngest, IsInSlot, capped, capped_place, staled, arranged, arranged_entry, arranged_id, buried, named_order, normal, orderly, IsRegular, run_names, tale}
+use Rattle.uv_tale.proofs.Names.{pooled, ◌≡◌, ℕ, List, [], ◌∷◌, true, Option, refl, ap, sym, ◌∙◌, slice_get, slice_get-map, map, option_map, min, Due, Id, Program, arena_size, Place, Main, Running, State, has_id, run_ids, By, base, earlier, earliest, least_start, or_first, or_over, youngest, IsInSlot, capped, capped_place, staled, arranged, arranged_id, buried, named_order, normal, orderly, IsRegular, run_names, tale, in_order, relabeled_entry, has_front, has_behind}
 use Rattle.uv_records.specs.declared.lists.WatcherKind.TheVariants as watcher
 use Rattle.uv_shift.specs.Earliest.{back}
 use Rattle.uv_shift.proofs.Timed.{earliest_timed}
 use Rattle.uv_tale.proofs.Made.{made, named_entry, place_id}
-use Rattle.uv_tale.proofs.Making.{form_free, form_list, form_names, form_running, form_runs, form_slots, form_timers, form_walk, has_list, has_yet, settled_by}
+use Rattle.uv_tale.proofs.Making.{form_free, form_list, form_names, form_running, form_runs, form_slots, form_timers, form_walk, settled_by}
 use Rattle.uv_tale.proofs.Settled.{settled, order_stays}
 use Rattle.uv_tale.proofs.Timers.{named_timers}
 
@@ -26,7 +26,7 @@ over_capped n (Running run) at = refl
 
 same_base : (n : ℕ) (o : List ℕ) (dead : ℕ) (s : State) → base (capped n (staled (arranged o (buried dead s)))) ≡ base s
 same_base n o dead s =
-    let one = over_capped n s.place (or_first (map (arranged_entry o) s.timers) (min s.time s.clock))
+    let one = over_capped n s.place (or_first (map (relabeled_entry (in_order o)) s.timers) (min s.time s.clock))
     ∙ ap (or_over s.place) (first_other (arranged_id o) s.timers (min s.time s.clock)) in
     let two = start_other (arranged_id o) s.timers s.next_start in
     λ i. record { ms = one i; starts = two i }
@@ -40,7 +40,7 @@ module _ (p : Program) (n : ℕ) (s : State) (regular : IsRegular p s) where
 
   -- those that wait or run are held
   in_slots : (id : Id) → has_id (run_ids s.running) id ≡ true → IsInSlot s id
-  in_slots id e = regular.young.opened id (has_yet s.waiting (run_ids s.running) id e)
+  in_slots id e = regular.young.opened id (has_behind s.waiting (run_ids s.running) id e)
 
   -- what a worker runs there has the place of its name
   pub run_made : (k : ℕ) → slice_get (normal n (settled p s)).running k
@@ -65,7 +65,7 @@ module _ (p : Program) (n : ℕ) (s : State) (regular : IsRegular p s) where
       let check = walk s.watchers.check (k.watchers watcher.Check) in
       let async = walk s.watchers.async (k.watchers watcher.Async) in
       let closing = walk s.closing k.closing in
-      let waiting = list s.waiting (λ id e. k.opened id (has_list s.waiting (run_ids s.running) id e)) in
+      let waiting = list s.waiting (λ id e. k.opened id (has_front s.waiting (run_ids s.running) id e)) in
       let running = form_running p n s regular s.running in_slots in
       let done = walk s.done k.done in
       ap orderly by_order ∙ (λ i. record {

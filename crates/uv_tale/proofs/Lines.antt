@@ -1,21 +1,20 @@
 -- What a line tells, it tells in other slots, later, with slots that were freed more often, and of another worker.
-use Rattle.uv_tale.proofs.Names.{◌≡◌, ℕ, List, Option, Some, arith, Seen, Program, State, option_map, By, later, shift, Frees, more, arranged, Fits, held_arranged, Content, retimed_content, shift_line, more_line, rename, held_renamed, line_by, arranged_line, holds_timer, calls_timer, bare_line, told_line}
+use Rattle.uv_tale.proofs.Names.{◌≡◌, ℕ, List, Option, Some, arith, Seen, Program, State, option_map, By, later, shift, Frees, more, arranged, Fits, held_arranged, Content, retimed_content, shift_line, by_frees, in_order, rename, renamed_slots, relabeled_line, held_renamed, line_by, holds_timer, calls_timer, bare_line, told_line}
 use Rattle.uv_ids.specs.declared.seen.Seen.TheVariants as seen
 use Rattle.uv_shift.proofs.Slots.{held_shift}
-use Rattle.uv_generations.proofs.More.{renamed_slots}
 
 pub told_arranged : (p : Program) (o : List ℕ) (line : Option Seen) →
-    option_map (told_line p) (option_map (arranged_line o) line) ≡ option_map (told_line p) line
+    option_map (told_line p) (option_map (relabeled_line (in_order o)) line) ≡ option_map (told_line p) line
 told_arranged p o line = grind arith
 
 pub calls_arranged : (o : List ℕ) (s : State) (line : Option Seen) → Fits o s.arena.slots →
-    calls_timer (arranged o s) (option_map (arranged_line o) line) ≡ calls_timer s line
+    calls_timer (arranged o s) (option_map (relabeled_line (in_order o)) line) ≡ calls_timer s line
 calls_arranged o s line fits = grind (arith, held_arranged)
 
 -- ---- later, and freed more often
 
 abbrev pub moved_line : Program → By → Frees → Option Seen → Option Seen
-moved_line p d k line = option_map (shift_line p d) (option_map (more_line k) line)
+moved_line p d k line = option_map (shift_line p d) (option_map (relabeled_line (by_frees k)) line)
 
 pub told_moved : (p : Program) (d : By) (k : Frees) (line : Option Seen) →
     option_map (told_line p) (moved_line p d k line) ≡ option_map (told_line p) line

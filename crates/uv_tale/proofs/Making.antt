@@ -1,9 +1,8 @@
 -- The slots, the names and the lists of a state's form by names are those that its tale makes.
-use Rattle.uv_tale.proofs.Names.{◌≡◌, ℕ, suc, ◌+◌, ◌-◌, ◌++◌, ◌<◌, ◌≤◌, ◌||◌, List, [], ◌∷◌, length, drop, replicate, true, Option, Some, None, refl, ap, sym, ◌∙◌, arith, length-append, slice_get, inl, inr, map, option_map, unwrap_or, or_right, append-nil, slice_get-map, slice_get_past, Due, Id, Named, Slot, unbound, held, Walk, Program, arena_size, Content, State, named, same_id, has_id, run_ids, Has, By, base, earlier, Retiming, retimed_entry, retimed_slot, Renaming, renamed_entry, renamed_slots, renamed_walk, IsInSlot, freed_less, least_bound, least_of, or_bound, surplus, Frees, capped, capped_name, staled, staled_by, staled_id, staled_name, arranged, arranged_entry, arranged_id, arranged_named, arranged_slots, arranged_walk, picked, place_of, times, buried, buried_by, buried_id, buried_name, dead_id, named_order, slots_bound, vacancies, Fits, get_arranged, length_arranged, place_behind, IsWhole, tidy_whole, ordered, map_ordered, IsRegular, Told, as_id, bound_by, bound_to, name_at, names_at, number_of, run_names, runs_at, told_name, walk_at, name_in}
+use Rattle.uv_tale.proofs.Names.{◌≡◌, ℕ, suc, ◌+◌, ◌-◌, ◌++◌, ◌<◌, ◌≤◌, List, [], ◌∷◌, length, drop, replicate, true, Option, Some, None, refl, ap, sym, ◌∙◌, arith, length-append, slice_get, inl, inr, map, option_map, or_right, append-nil, slice_get-map, slice_get_past, Due, Id, Named, Slot, held, Walk, Program, arena_size, Content, State, named, same_id, has_id, run_ids, Has, By, base, earlier, Retiming, retimed_entry, retimed_slot, Renaming, renamed_slots, IsInSlot, freed_less, least_bound, least_of, or_bound, surplus, Frees, capped, capped_name, staled, staled_by, staled_id, staled_name, arranged, arranged_id, arranged_slots, picked, place_of, times, buried, buried_by, buried_id, buried_name, dead_id, named_order, slots_bound, vacancies, Fits, get_arranged, length_arranged, place_behind, IsWhole, tidy_whole, ordered, map_ordered, IsRegular, Told, as_id, bound_by, bound_to, name_at, names_at, number_of, run_names, runs_at, told_name, walk_at, name_in, in_order, relabeled_entry, relabeled_named, relabeled_walk, rename, renaming, IsThere, is_there, named_there, has_first, has_front, has_behind}
 use Rattle.uv_shift.specs.Earliest.{back}
-use Rattle.uv_generations.specs.Renamed.{rename, renamed_named}
 use Rattle.uv_tale.proofs.Made.{bound_told, empty_slot, id_told, list_told, named_entry, names_told, numbers_from, place_id, place_told, slots_held, timer_told, walk_told}
-use Rattle.uv_tale.proofs.Places.{IsThere, all_picked, at_place, clean, free_placed, held_length, is_there, placed, told}
+use Rattle.uv_tale.proofs.Places.{all_picked, at_place, clean, free_placed, held_length, placed, told}
 
 -- ---- lists of any kind
 
@@ -15,30 +14,12 @@ get_behind : {X : Type 0} (xs ys : List X) (i : ℕ) → slice_get (xs ++ ys) (l
 get_behind [] ys i = ap (slice_get ys) (omega arith)
 get_behind (x ∷ xs) ys i = grind (arith, (get_behind xs ys i))
 
-itself : (id : Id) → same_id id id ≡ true
-itself id = grind arith
-
-has_first : (id : Id) (ids : List Id) → has_id (id ∷ ids) id ≡ true
-has_first id ids = ap (λ b. b || has_id ids id) (itself id)
-
-pub has_list : (xs ys : List Id) (id : Id) → has_id xs id ≡ true → has_id (xs ++ ys) id ≡ true
-has_list [] ys id e = absurd (let f : ⊥ = cc in f)
-has_list (x ∷ xs) ys id e = grind (arith, has_list xs ys id)
-
-pub has_yet : (xs ys : List Id) (id : Id) → has_id ys id ≡ true → has_id (xs ++ ys) id ≡ true
-has_yet [] ys id e = e
-has_yet (x ∷ xs) ys id e = or_right (same_id x id) (has_id (xs ++ ys) id) (has_yet xs ys id e)
-
 -- slots whose generations all become 0
 zero_slots : (d : By) (r : Renaming) (xs : List (Slot Content)) →
     ((m : ℕ) (slot : Slot Content) → slice_get xs m ≡ Some slot → r m slot.generation ≡ 0) →
     renamed_slots r (map (retimed_slot (earlier d)) xs) ≡ map (clean d) xs
 zero_slots d r [] h = refl
 zero_slots d r (x ∷ xs) h = grind (arith, (zero_slots d (λ m. r (suc m)) xs (λ m. h (suc m))))
-
--- what a name is bound to stands among the names
-named_there : (o : Option Named) (id : Id) → (unwrap_or o unbound).id ≡ Some id → o ≡ Some (unwrap_or o unbound)
-named_there o id e = grind arith
 
 vacant_once : (o : Option (Slot Content)) (n : ℕ) → n ≡ vacancies o → 0 < n → vacancies o ≡ 1
 vacant_once o n e l = grind arith
@@ -110,7 +91,7 @@ module _ (p : Program) (n : ℕ) (s : State) (regular : IsRegular p s) where
   -- ---- no name is bound to an earlier generation of a slot
 
   abbrev settled_names : List Named → List Named
-  settled_names ns = map (capped_name n) (map (staled_name now) (map (arranged_named order) (map (buried_name dead s.arena.slots) ns)))
+  settled_names ns = map (capped_name n) (map (staled_name now) (map (relabeled_named (in_order order)) (map (buried_name dead s.arena.slots) ns)))
 
   no_less : (o : Option Id) (m : ℕ) (slot : Slot Content) → slice_get now m ≡ Some slot →
       or_bound m (option_map (staled_id now) (option_map (arranged_id order) (option_map (buried_id dead s.arena.slots) o))) slot.generation
@@ -174,7 +155,7 @@ module _ (p : Program) (n : ℕ) (s : State) (regular : IsRegular p s) where
     by (Some x) e = ap (λ (i : Id). Some (rename (freed_less frees) i)) (kept_id id x e) ∙ ap Some (bound_id v m id x at is e)
 
   names_from : (v : ℕ) (ns : List Named) → ((i : ℕ) → slice_get s.names (v + i) ≡ slice_get ns i) →
-      map (renamed_named (freed_less frees)) (settled_names ns) ≡ names_told dead tells v (told d n s.arena.slots ns)
+      map (relabeled_named (renaming (freed_less frees))) (settled_names ns) ≡ names_told dead tells v (told d n s.arena.slots ns)
   names_from v [] h = refl
   names_from v (x ∷ xs) h =
       let here : slice_get s.names v ≡ Some x = ap (slice_get s.names) (let e : v ≡ v + 0 = omega arith in e) ∙ h 0 in
@@ -182,7 +163,7 @@ module _ (p : Program) (n : ℕ) (s : State) (regular : IsRegular p s) where
       let first = name_id v x x.id here refl in
       λ i. record { id = first i; calls = (told_name d n s.arena.slots x).calls } ∷ rest i
 
-  pub form_names : map (renamed_named (freed_less frees)) settled_by.names ≡ names_told dead tells 0 tells
+  pub form_names : map (relabeled_named (renaming (freed_less frees))) settled_by.names ≡ names_told dead tells 0 tells
   form_names = names_from 0 s.names (λ i. ap (slice_get s.names) (let e : 0 + i ≡ i = omega arith in e))
 
   -- ---- its slots
@@ -235,10 +216,10 @@ module _ (p : Program) (n : ℕ) (s : State) (regular : IsRegular p s) where
       λ i. first i ∷ rest i
 
   pub form_walk : (w : Walk Id) → ((id : Id) → has_id (w.list ++ w.yet) id ≡ true → IsInSlot s id) →
-      renamed_walk (freed_less frees) (arranged_walk order w) ≡ walk_told tells (walk_at s.arena.slots w)
+      relabeled_walk (renaming (freed_less frees)) (relabeled_walk (in_order order) w) ≡ walk_told tells (walk_at s.arena.slots w)
   form_walk w h =
-      let one = form_list w.list (λ id e. h id (has_list w.list w.yet id e)) in
-      let two = form_list w.yet (λ id e. h id (has_yet w.list w.yet id e)) in
+      let one = form_list w.list (λ id e. h id (has_front w.list w.yet id e)) in
+      let two = form_list w.yet (λ id e. h id (has_behind w.list w.yet id e)) in
       λ i. record { list = one i; yet = two i }
 
   pub form_runs : (running : List (Option Id)) → ((id : Id) → has_id (run_ids running) id ≡ true → IsInSlot s id) →
@@ -258,7 +239,7 @@ module _ (p : Program) (n : ℕ) (s : State) (regular : IsRegular p s) where
       ∙ sym (map_ordered (option_map (place_id tells)) (run_names s.arena.slots running))
 
   pub form_timers : (r : Retiming) (ts : List (Due × Id)) → ((due : Due) (id : Id) → Has ts due id → IsInSlot s id) →
-      map (renamed_entry (freed_less frees)) (map (retimed_entry r) (map (arranged_entry order) ts))
+      map (relabeled_entry (renaming (freed_less frees))) (map (retimed_entry r) (map (relabeled_entry (in_order order)) ts))
       ≡ map (timer_told tells) (map (named_entry s.arena.slots) (map (retimed_entry r) ts))
   form_timers r [] h = refl
   form_timers r (t ∷ ts) h =

@@ -1,5 +1,5 @@
 -- Where the slots of a state go in the order of its names: to the places that its tale tells.
-use Rattle.uv_tale.proofs.Names.{◌≡◌, ℕ, zero, suc, ◌+◌, ◌++◌, ◌<◌, List, [], ◌∷◌, length, replicate, Option, Some, None, refl, ap, sym, ◌∙◌, arith, append_assoc, length-append, slice_get, map, option_map, option_to_list, map-append, Id, Named, Slot, held, Content, By, earlier, retimed_content, times, IsOrder, place_of, picked, slot_bound, slots_bound, vacancies, stands, placed_once, Told, bound_by, bound_to, told_name}
+use Rattle.uv_tale.proofs.Names.{◌≡◌, ℕ, zero, suc, ◌+◌, ◌++◌, ◌<◌, List, [], ◌∷◌, length, replicate, Option, Some, None, refl, ap, sym, ◌∙◌, arith, append_assoc, length-append, slice_get, map, option_map, option_to_list, map-append, Id, Named, Slot, held, Content, By, earlier, retimed_content, times, IsOrder, place_of, picked, slot_bound, slots_bound, vacancies, stands, placed_once, Told, bound_by, bound_to, told_name, is_there}
 use Rattle.uv_tale.proofs.Made.{holding, place_told, slot_told, slots_held, empty_slot, numbers_from}
 
 -- ---- the place of a number
@@ -17,17 +17,6 @@ free_placed o (m ∷ ms) first h at =
     let front : place_of o m ≡ first = placed o first m h (grind (arith, at 0 m)) in
     let rest = free_placed o ms (suc first) h (λ i n e. grind (arith, at (suc i) n)) in
     λ i. front i ∷ rest i
-
--- ---- what a slot that holds something is
-
-pub record IsThere (slots : List (Slot Content)) (id : Id) (x : Content) : Type 0 where
-  pub slot : Slot Content
-  pub there : slice_get slots id.slot ≡ Some slot
-  pub generation : slot.generation ≡ id.generation
-  pub content : slot.content ≡ Some x
-
-pub is_there : (slots : List (Slot Content)) (id : Id) (x : Content) → held slots id ≡ Some x → IsThere slots id x
-is_there slots id x e = grind arith
 
 -- a slot as the form has it
 abbrev pub clean : By → Slot Content → Slot Content

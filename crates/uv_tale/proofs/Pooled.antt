@@ -1,11 +1,9 @@
 -- The pooled form of a state is that of the state at later times, whose slots were freed more often.
-use Rattle.uv_tale.proofs.Names.{◌≡◌, ℕ, ◌+◌, List, [], ◌∷◌, Option, Some, None, refl, ap, ap₂, sym, ◌∙◌, arith, length, slice_get, Event, Id, Due, Slot, Named, Program, State, Moves, Content, Place, Main, Running, ◌≤◌, map, option_map, Next, Refuses, next, By, later, shift, earliest, Frees, more, surplus, suc, min, slice_get-map, slice_get_past, slice_get_cases, Retiming, retimed, retimed_slot, retimed_place, retimed_entry, base, earlier, or_over, earliest_same, Renaming, renamed, freed_less, least_of, youngest, rename, renamed_named, get_renamed, capped_name, capped_place, staled_by, staled_id, staled_name, HasUsed, next_grows, StaysKept, orderly, map_ordered, reduced, normal, pooled}
-use Rattle.uv_generations.specs.Renamed as any
-use Rattle.uv_generations.proofs.More.{renamed_slots}
+use Rattle.uv_tale.proofs.Names.{◌≡◌, ℕ, ◌+◌, List, [], ◌∷◌, Option, None, refl, ap, ap₂, sym, ◌∙◌, arith, length, slice_get, Event, Id, Slot, Named, Program, State, Moves, Content, Place, ◌≤◌, map, option_map, Next, Refuses, next, By, later, shift, earliest, Frees, more, surplus, suc, min, slice_get-map, slice_get_past, slice_get_cases, Retiming, retimed, retimed_slot, retimed_place, base, earlier, or_over, earliest_same, Renaming, renamed, youngest, rename, renamed_slots, by_frees, relabeled_named, get_renamed, length_renamed, capped_name, capped_place, staled_id, staled_name, next_grows, orderly, map_ordered, reduced, normal, pooled}
+use Rattle.std.proofs.lemmas.Simd.{map-map}
 use Rattle.uv_generations.proofs.Base.{youngest_same}
 use Rattle.uv_workers.proofs.Frame.{put}
 use Rattle.uv_tale.proofs.Form.{first_other, start_other}
-use Rattle.uv_tale.proofs.Told.{length_renamed}
 
 abbrev reduced_names : ℕ → List (Slot Content) → List Named → List Named
 reduced_names n slots names = map (capped_name n) (map (staled_name slots) names)
@@ -30,11 +28,12 @@ reduced_later n d s = simp (place_later, later, names_later, shift)
 -- ---- and where slots were freed more often
 
 bound_more : (k : Frees) (slots : List (Slot Content)) (o : Option Id) →
-    option_map (staled_id (renamed_slots k slots)) (option_map (rename k) o) ≡ option_map (rename k) (option_map (staled_id slots) o)
+    option_map (staled_id ((by_frees k).slots slots)) (option_map (by_frees k).id o) ≡ option_map (by_frees k).id (option_map (staled_id slots) o)
 bound_more k slots o = grind (arith, rename, get_renamed, slice_get)
 
 names_more : (n : ℕ) (k : Frees) (slots : List (Slot Content)) (names : List Named) →
-    reduced_names n (renamed_slots k slots) (map (renamed_named k) names) ≡ map (renamed_named k) (reduced_names n slots names)
+    reduced_names n ((by_frees k).slots slots) (map (relabeled_named (by_frees k)) names)
+    ≡ map (relabeled_named (by_frees k)) (reduced_names n slots names)
 names_more n k slots [] = refl
 names_more n k slots (x ∷ xs) = simp (ap₂, bound_more, (names_more n k slots xs))
 
@@ -44,22 +43,17 @@ reduced_more n k s = simp names_more
 -- ---- times and generations are apart
 
 slots_apart : (f : Renaming) (r : Retiming) (slots : List (Slot Content)) →
-    any.renamed_slots f (map (retimed_slot r) slots) ≡ map (retimed_slot r) (any.renamed_slots f slots)
+    renamed_slots f (map (retimed_slot r) slots) ≡ map (retimed_slot r) (renamed_slots f slots)
 slots_apart f r [] = refl
 slots_apart f r (x ∷ xs) = cc (slots_apart (λ n. f (suc n)) r xs)
 
-timers_apart : (f : Renaming) (r : Retiming) (ts : List (Due × Id)) →
-    map (any.renamed_entry f) (map (retimed_entry r) ts) ≡ map (retimed_entry r) (map (any.renamed_entry f) ts)
-timers_apart f r [] = refl
-timers_apart f r (t ∷ ts) = ap (λ (us : List (Due × Id)). retimed_entry r (any.renamed_entry f t) ∷ us) (timers_apart f r ts)
-
 apart : (f : Renaming) (r : Retiming) (s : State) → renamed f (retimed r s) ≡ retimed r (renamed f s)
-apart f r s = simp (slots_apart, timers_apart)
+apart f r s = simp (slots_apart, map-map)
 
 earliest_more : (k : Frees) (s : State) → earliest (more k s) ≡ more k (earliest s)
 earliest_more k s =
-    let ms = ap (or_over s.place) (first_other (rename k) s.timers (min s.time s.clock)) in
-    let starts = start_other (rename k) s.timers s.next_start in
+    let ms = ap (or_over s.place) (first_other (by_frees k).id s.timers (min s.time s.clock)) in
+    let starts = start_other (by_frees k).id s.timers s.next_start in
     let same : base (more k s) ≡ base s = λ i. record { ms = ms i; starts = starts i } in
     ap (λ (d : By). retimed (earlier d) (more k s)) same ∙ sym (apart (λ slot g. g + k slot) (earlier (base s)) s)
 

@@ -1,5 +1,5 @@
 -- What holds of a settled state.
-use Rattle.uv_tale.proofs.Names.{◌≡◌, ◌++◌, List, [], ◌∷◌, Option, Some, None, ℕ, refl, ap, sym, arith, length, Id, Named, Slot, held, Content, Program, arena_size, State, ◌≤◌, subst, map, option_map, option_to_list, slice_get_past, IsTimed, IsYoung, slot_bound, slots_bound, named_order, buried_by, buried_id, buried_name, buried, Fits, IsWhole, tidy_whole, IsRegular, named_form}
+use Rattle.uv_tale.proofs.Names.{◌≡◌, ◌++◌, List, [], ◌∷◌, Option, Some, None, ℕ, refl, ap, sym, arith, length, Id, Named, Slot, held, Content, Program, arena_size, State, ◌≤◌, subst, map, option_map, option_to_list, slice_get_past, IsTimed, IsYoung, slot_bound, slots_bound, named_order, buried_by, buried_id, buried_name, buried, Fits, IsWhole, tidy_whole, IsRegular, arranged}
 use Rattle.uv_tale.proofs.Aside.{aside_timed, aside_young}
 use Rattle.uv_tale.proofs.Keeping.{arranged_young, arranged_timed}
 
@@ -7,13 +7,13 @@ use Rattle.uv_tale.proofs.Keeping.{arranged_young, arranged_timed}
 abbrev pub dead_of : Program → ℕ
 dead_of p = (arena_size p).slots
 
--- its slots stand in the order of names, of which none is bound to what is gone
-abbrev pub settled : Program → State → State
-settled p s = named_form (buried (dead_of p) s)
-
 -- the order in which a state's slots stand, as it is settled
 abbrev pub order_in : Program → State → List ℕ
 order_in p s = named_order (buried (dead_of p) s)
+
+-- its slots stand in the order of names, of which none is bound to what is gone
+abbrev pub settled : Program → State → State
+settled p s = arranged (order_in p s) (buried (dead_of p) s)
 
 -- it is that of the state itself
 module _ (dead : ℕ) (slots : List (Slot Content)) (beyond : length slots ≤ dead) where

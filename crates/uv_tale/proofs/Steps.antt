@@ -1,6 +1,6 @@
 -- States of which the same is told go on alike, and those with the same pooled form: each goes on as a form of it does, and of the two forms the
 -- workers alone are others.
-use Rattle.uv_tale.proofs.Names.{◌≡◌, ℕ, ◌+◌, List, false, Option, refl, ap, sym, ◌∙◌, arith, length, slice_get, Event, Seen, Program, State, Moves, Slots, Content, ◌≤◌, subst, option_map, Next, Refuses, next, ClockFits, IsTimed, IsYoung, earliest, surplus, By, shift, Frees, more, IsOrder, arranged, buried, buried_next, Fits, shift_next, earliest_later, more_next, AreBefore, arranged_next, names_buried, HasUsed, next_grows, next_arranged, StaysKept, is_of_worker, line_by, next_by, orderly, orderly_next, reduced, normal, pooled, bare_line, calls_timer, told_line, IsRegular, LeadsRegular, NextAlike, run_names, tale, Take, Finish}
+use Rattle.uv_tale.proofs.Names.{◌≡◌, ℕ, ◌+◌, List, false, Option, refl, ap, sym, ◌∙◌, arith, length, slice_get, Event, Seen, Program, State, Moves, Slots, Content, ◌≤◌, subst, option_map, Next, Refuses, next, ClockFits, IsTimed, IsYoung, earliest, surplus, By, shift, Frees, more, IsOrder, arranged, buried, Fits, earliest_later, by_frees, in_order, AreBefore, names_buried, HasUsed, next_grows, next_arranged, StaysKept, is_of_worker, line_by, next_by, orderly, reduced, normal, pooled, bare_line, calls_timer, told_line, IsRegular, LeadsRegular, NextAlike, run_names, tale, Take, Finish, next_map, state_map, relabeled_line, shift_line}
 use Rattle.uv_shift.specs.Earliest as early
 use Rattle.uv_shift.proofs.Alike.{earliest_next}
 use Rattle.uv_generations.proofs.Alike.{youngest_next}
@@ -8,7 +8,7 @@ use Rattle.uv_generations.proofs.Early.{earliest_young}
 use Rattle.uv_workers.proofs.Steps as workers
 use Rattle.uv_tale.proofs.Pooled.{IsUnused, NextUnused, pooled_moved, pooled_orderly, unused_behind}
 use Rattle.uv_tale.proofs.Aside.{aside_timed, aside_young, clock_same}
-use Rattle.uv_tale.proofs.Reduced.{reduced_next, next_reduced}
+use Rattle.uv_tale.proofs.Reduced.{next_reduced}
 use Rattle.uv_tale.proofs.Settled.{dead_of, settled, order_in, fits_in, settled_timed, settled_young}
 use Rattle.uv_tale.proofs.Lines.{moved_line, told_arranged, calls_arranged, told_moved, bare_moved, calls_moved, told_by, bare_by, calls_by}
 use Rattle.uv_tale.proofs.Made.{place_id}
@@ -68,7 +68,8 @@ module _ {F : Type 0} (p : Program) (n : ℕ) (form : State → F) (tells : Seen
   -- ---- calls are counted up to a number, times are earlier, and slots were freed less often
 
   moved_alike : (d : By) (k : Frees) (s u : State) (x y : Next) → s.clock ≡ u.clock + d.ms → NextUnused k y →
-      reduced_next n (shift_next p d (more_next k y)) ≡ reduced_next n x → Alike s u x y
+      state_map (reduced n) (next_map (shift d) (shift_line p d) (next_map (more k) (relabeled_line (by_frees k)) y))
+      ≡ state_map (reduced n) x → Alike s u x y
   moved_alike d k s u (Moves a line) (Moves b says) clock unused e =
       let same : reduced n (shift d (more k b)) ≡ reduced n a = cc in
       let same_line : moved_line p d k says ≡ line = cc in
@@ -93,13 +94,13 @@ module _ {F : Type 0} (p : Program) (n : ℕ) (form : State → F) (tells : Seen
       let fresh = earliest_young p r old (aside_young p s r young) in
       moved_alike d k s (normal n s) (next p s e) (next p (normal n s) e) (ap (λ (x : State). x.clock) (sym (earliest_later r old.timers)))
       (unused_behind p (earliest r) e)
-      (ap (λ x. reduced_next n (shift_next p d x)) (sym (youngest_next p (earliest r) e fresh))
-      ∙ ap (reduced_next n) (sym (earliest_next p r e old (clock_same s r e refl fits)))
+      (ap (λ x. state_map (reduced n) (next_map (shift d) (shift_line p d) x)) (sym (youngest_next p (earliest r) e fresh))
+      ∙ ap (state_map (reduced n)) (sym (earliest_next p r e old (clock_same s r e refl fits)))
       ∙ next_reduced n p s e before)
 
   -- ---- workers run the same, whichever of them runs which
 
-  orderly_alike : (s t : State) (x y : Next) → s.clock ≡ t.clock → orderly_next x ≡ orderly_next y → Alike s t x y
+  orderly_alike : (s t : State) (x y : Next) → s.clock ≡ t.clock → state_map orderly x ≡ state_map orderly y → Alike s t x y
   orderly_alike s t (Moves a line) (Moves b other) clock e =
       let same : orderly a ≡ orderly b = cc in
       let same_line : line ≡ other = cc in
@@ -117,7 +118,8 @@ module _ {F : Type 0} (p : Program) (n : ℕ) (form : State → F) (tells : Seen
 
   module _ (s t a b : State) (same : orderly a ≡ orderly b) where
     -- where the one takes a step as its form does, and the forms take it alike, and the other takes it as its form does
-    between : (e f : Event) (x y : Next) → Alike s a x y → orderly_next y ≡ orderly_next (next p b f) → Alike t b (next p t f) (next p b f) →
+    between : (e f : Event) (x y : Next) → Alike s a x y → state_map orderly y ≡ state_map orderly (next p b f) →
+        Alike t b (next p t f) (next p b f) →
         Alike s t x (next p t f)
     between e f x y here alike there =
         joined s a t x y (next p t f) here
@@ -186,7 +188,7 @@ module _ (p : Program) (n : ℕ) where
   }
 
   -- names forget in which slot that was which is gone
-  buried_alike : (s : State) (x y : Next) → LeadsRegular p x → buried_next (dead_of p) y ≡ buried_next (dead_of p) x →
+  buried_alike : (s : State) (x y : Next) → LeadsRegular p x → state_map (buried (dead_of p)) y ≡ state_map (buried (dead_of p)) x →
       Tells s (buried (dead_of p) s) x y
   buried_alike s (Moves a line) (Moves b says) regular e =
       let same : buried (dead_of p) b ≡ buried (dead_of p) a = cc in
@@ -206,7 +208,7 @@ module _ (p : Program) (n : ℕ) where
 
   -- slots stand in another order
   arranged_alike : (o : List ℕ) (s : State) (y : Next) → IsOrder o → StaysKept (HasUsed (length o)) y →
-      Tells s (arranged o s) y (arranged_next o y)
+      Tells s (arranged o s) y (next_map (arranged o) (relabeled_line (in_order o)) y)
   arranged_alike o s (Moves b says) order grows =
       let fits : Fits o b.arena.slots = record { order = order; within = grows } in
       record {

@@ -1,5 +1,5 @@
 -- What each change that a form takes away leaves is told as before.
-use Rattle.uv_tale.proofs.Names.{◌≡◌, ℕ, suc, ◌+◌, ◌≤◌, List, [], ◌∷◌, length, Option, Some, None, refl, ap, ap₂, sym, ◌∙◌, map, min, option_map, length-map, Due, Id, Named, Slot, Slots, held, Walk, Content, Place, Main, Running, State, By, shift, base, earlier, earliest, or_first, or_over, Retiming, retimed_content, retimed_place, retimed_slot, earliest_same, Frees, more, Renaming, renamed_slots, held_renamed, capped_body, capped_calls, capped_name, capped_place, staled_id, staled_name, twice, held_same, reduced, arranged, buried, buried_by, buried_id, buried_name, dead_gone, Fits, length_arranged, held_arranged, ordered, orderly, map_ordered, Bound, Nothing, Gone, Holds, Told, Tale, as_id, bound_by, bound_to, name_at, names_at, number_of, runs_at, tale, tale_by, told_name, walk_at, Calls, Body}
+use Rattle.uv_tale.proofs.Names.{◌≡◌, ℕ, ◌+◌, ◌≤◌, List, [], ◌∷◌, length, Option, Some, None, refl, ap, ap₂, sym, ◌∙◌, map, min, option_map, length-map, Due, Id, Named, Slot, Slots, held, Walk, Content, Place, Main, Running, State, By, shift, base, earlier, earliest, or_first, or_over, Retiming, retimed_content, retimed_place, retimed_slot, earliest_same, Frees, more, held_renamed, capped_body, capped_calls, capped_name, capped_place, staled_id, staled_name, twice, held_same, reduced, arranged, buried, buried_by, buried_id, buried_name, dead_gone, Fits, length_arranged, held_arranged, ordered, orderly, map_ordered, Bound, Nothing, Gone, Holds, Told, Tale, as_id, bound_by, bound_to, name_at, names_at, number_of, runs_at, tale, tale_by, told_name, walk_at, Calls, Body, length_renamed}
 use Rattle.uv_work.specs.declared.content.Content.TheVariants as content
 use Rattle.uv_tale.proofs.Form.{first_other, over_capped, start_other}
 use Rattle.uv_tale.proofs.Timers.{held_retimed}
@@ -121,11 +121,6 @@ module _ (slots other : List (Slot Content)) (g : Id → Id) (same : (id : Id) �
   runs_other : (xs : List (Option Id)) → runs_at other (map (option_map g) xs) ≡ runs_at slots xs
   runs_other xs = ap ordered (each (option_map g) (option_map (λ (id : Id). as_id (name_at other id)))
       (option_map (λ (id : Id). as_id (name_at slots id))) run_other xs)
-
--- generations are no matter to how many slots there are
-pub length_renamed : (f : Renaming) (slots : List (Slot Content)) → length (renamed_slots f slots) ≡ length slots
-length_renamed f [] = refl
-length_renamed f (x ∷ xs) = ap suc (length_renamed (λ n. f (suc n)) xs)
 
 -- a state with other ids, and other slots
 abbrev with_ids : (Id → Id) → List (Slot Content) → List ℕ → State → State

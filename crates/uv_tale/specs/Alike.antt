@@ -13,12 +13,13 @@ use Rattle.uv_script.specs.Program.{Program, arena_size}
 use Rattle.uv_model.specs.State.{State}
 use Rattle.uv_model.specs.Next.{Next, Moves, Refuses}
 use Rattle.uv_shift.specs.Earliest.{IsTimed, earliest, untimed_line}
-use Rattle.uv_generations.specs.Renamed.{renamed_line}
+use Rattle.uv_generations.specs.Renamed.{renaming}
 use Rattle.uv_generations.specs.Youngest.{IsYoung, youngest}
 use Rattle.uv_names.specs.Counts.{capped}
 use Rattle.uv_names.specs.Stale.{staled}
 use Rattle.uv_slots.specs.Buried.{CanBury}
-use Rattle.uv_slots.specs.NamedForm.{IsTidy}
+use Rattle.uv_slots.specs.Relabeled.{relabeled_line}
+use Rattle.uv_slots.specs.Tidy.{IsTidy}
 use Rattle.uv_workers.specs.Workers.{orderly}
 
 -- what holds of each state that few steps lead to, in a script whose numbers are small and whose ops name declared names
@@ -73,7 +74,7 @@ pooled n s = orderly (normal n s)
 
 -- a line whose ids have no generation, without the time that the op `now` answers
 abbrev pub bare_line : Program → Seen → Seen
-bare_line p line = untimed_line p (renamed_line (λ slot generation. 0) line)
+bare_line p line = untimed_line p (relabeled_line (renaming (λ slot generation. 0)) line)
 
 -- ---- steps that are the same except for what a form of states, and one of lines, leave out
 

@@ -1,6 +1,5 @@
 -- Tasks and digests that are replaced by one, as a change.
-use Rattle.std.proofs.Common.{◌≡◌, ◌∙◌, ℕ, ◌+◌, List, [], ◌∷◌, if◌then◌else◌, arith, refl, ap, ap₂, sym, Bool, Option, Some, replicate, slice_get}
-use Rattle.std.specs.List.{list_any}
+use Rattle.std.proofs.Common.{◌≡◌, ◌∙◌, ℕ, ◌+◌, List, [], ◌∷◌, if◌then◌else◌, arith, refl, ap, ap₂, sym, Option, Some, replicate, slice_get}
 use Rattle.std.specs.Prelude.{map, option_map}
 use Rattle.std.proofs.lemmas.List.{drop-map, length-map, map-id}
 use Rattle.std.proofs.lemmas.Option.{slice_get-map}
@@ -9,7 +8,6 @@ use Rattle.uv_ids.specs.declared.id.Id.{Id}
 use Rattle.uv_ids.specs.declared.id.Var.{Var}
 use Rattle.uv_ids.specs.declared.seen.Callback.{Callback}
 use Rattle.uv_records.specs.Slots.{held}
-use Rattle.uv_records.specs.declared.slot.Slot.{Slot}
 use Rattle.uv_script.specs.Program.{Program, arena_size, lines_in, is_for, next_line}
 use Rattle.uv_script.specs.declared.op.CallbackLine.{CallbackLine}
 use Rattle.uv_script.specs.declared.op.MainOp.{MainOp}
@@ -21,30 +19,17 @@ use Rattle.uv_model.specs.Next.{Next, next}
 use Rattle.uv_model.specs.State.{State, fresh, live, named}
 use Rattle.uv_model.specs.declared.place.Place.{Place}
 use Rattle.uv_records.specs.Names.{unbound}
-use Rattle.uv_alike.specs.Changed.{Change, Comes, changed, changed_content, changed_live, changed_main, changed_next, changed_place}
+use Rattle.uv_alike.specs.Changed.{Change, Comes, changed, changed_content, changed_live, changed_main, changed_place, unchanged, next_map, changed_line}
 use Rattle.uv_alike.specs.Hides.{Hides, IsWhole, IsExact}
 use Rattle.uv_alike.proofs.Exact.{next_exact}
-use Rattle.uv_alike.proofs.Mapped.{slot_of, held_mapped, turns_mapped, finds_mapped, takes_mapped, frees_mapped, live_mapped}
-use Rattle.uv_alike.proofs.Same.{any_same, event_same, lists_same}
+use Rattle.uv_alike.proofs.Mapped.{held_mapped, turns_mapped, finds_mapped, takes_mapped, frees_mapped, live_mapped}
+use Rattle.uv_alike.proofs.Same.{any_same, event_same, lists_same, times_same}
 use Rattle.uv_script.specs.SameWork.{least_task, same_line, same_main, same_callbacks, same_work}
-use Rattle.uv_tasks.specs.Tasks.{same_outcome, same_digest, same_content, same_slot, same_state, same_next}
+use Rattle.uv_tasks.specs.Tasks.{same_outcome, same_digest, same_content, same_slot, same_state, same_seen}
 
 abbrev by_work : Change
-by_work = record {
-  var = λ v. v;
-  id = λ x. x;
+by_work = record unchanged {
   slots = map same_slot;
-  free = λ ns. ns;
-  due = λ due. due;
-  due_in = λ active k due. due;
-  time = λ n. n;
-  clock = λ n. n;
-  start = λ n. n;
-  names = λ ns. ns;
-  count = λ n. n;
-  waits = map (λ x. x);
-  runs = λ rs. rs;
-  ends = map (λ x. x);
   work = record { task = λ t. least_task; outcome = same_outcome; digest = same_digest; main = map same_main; callbacks = map same_callbacks };
 }
 
@@ -68,11 +53,6 @@ content_is x = assumption
 live_is : (x : Option (Id × Content)) → option_map (λ (t : Id × Content). (t.0, same_content t.1)) x ≡ option_map (changed_live by_work) x
 live_is x = assumption
 
-keeps : (test : Option Content → Bool) → ((x : Option Content) → test (option_map same_content x) ≡ test x) → (s : State) →
-    list_any (λ (slot : Slot Content). test slot.content) (map (slot_of same_content) s.arena.slots)
-    ≡ list_any (λ (slot : Slot Content). test slot.content) s.arena.slots
-keeps test same s = any_same same_content test same s.arena.slots
-
 tells : (o : Outcome) → digest_in (same_outcome o) ≡ same_digest (digest_in o)
 tells o = grind arith
 
@@ -81,20 +61,10 @@ hides_work p s = record {
   same = λ a b. refl;
   finds = finds_mapped same_content s.arena;
   takes = λ x new e. rw (sym (content_is new)) (takes_mapped same_content x new s.arena);
-  keeps = keeps content_keeps (λ x. grind arith) s;
-  pends = keeps content_pends (λ x. grind arith) s;
-  uses = keeps is_used (λ x. grind arith) s;
-  order = λ a b. refl;
-  passed = λ a. refl;
-  left = λ a. refl;
-  rests = λ active k due e. refl;
-  ticks = λ k due e. refl;
-  more = refl;
-  repeats = λ x h e. refl;
-  starts = λ at v timeout repeat e. refl;
-  fires = λ t e due. refl;
-  falls = λ t e due. refl;
-  waits = λ n. refl;
+  keeps = any_same same_content content_keeps (λ x. grind arith) s.arena.slots;
+  pends = any_same same_content content_pends (λ x. grind arith) s.arena.slots;
+  uses = any_same same_content is_used (λ x. grind arith) s.arena.slots;
+  times = times_same p s;
   known = λ v. refl;
   binds = λ v x e. refl;
   lines = grind (arith, lines_same, slice_get-map);
@@ -131,10 +101,10 @@ place_is place = grind arith
 changed_is : (s : State) → changed by_work s ≡ same_state s
 changed_is s = simp (lists_same, place_is, map-id)
 
-next_is : (p : Program) (x : Next) → changed_next by_work p x ≡ same_next x
+next_is : (p : Program) (x : Next) → next_map (changed by_work) (changed_line by_work p) x ≡ next_map same_state same_seen x
 next_is p x = grind (arith, changed_is)
 
-pub next_same : (p : Program) (s : State) (e : Event) → next (same_work p) (same_state s) e ≡ same_next (next p s e)
+pub next_same : (p : Program) (s : State) (e : Event) → next (same_work p) (same_state s) e ≡ next_map same_state same_seen (next p s e)
 next_same p s e =
     ap₂ (next (same_work p)) (sym (changed_is s)) (sym (event_same by_work (λ v. refl) e))
     ∙ next_exact by_work p s (exact p s) (hides_work p s) (whole_work p s) e (by e) ∙ next_is p (next p s e)

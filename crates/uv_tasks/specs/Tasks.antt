@@ -1,8 +1,7 @@
 -- A state in which each request asks for the same work, and came to the same: whether it is done, and how, stays.
-use Rattle.std.specs.Prelude.{◌≡◌, List, ℕ, Option, map, option_map}
+use Rattle.std.specs.Prelude.{List, ℕ, Option, map, option_map}
 use Rattle.uv_ids.specs.declared.seen.Seen.{Seen}
 use Rattle.uv_ids.specs.declared.seen.Seen.TheVariants as seen
-use Rattle.uv_model.specs.Next.{Next, Moves, Refuses}
 use Rattle.uv_model.specs.State.{State}
 use Rattle.uv_records.specs.declared.slot.Slot.{Slot}
 use Rattle.uv_work.specs.Digests.{digest_of}
@@ -39,7 +38,3 @@ same_state s = record s { arena = record s.arena { slots = map same_slot s.arena
 abbrev pub same_seen : Seen → Seen
 same_seen (seen.After digest v id) = seen.After (same_digest digest) v id
 same_seen line = line
-
-abbrev pub same_next : Next → Next
-same_next (Moves s line) = Moves (same_state s) (option_map same_seen line)
-same_next (Refuses why) = Refuses why

@@ -1,5 +1,6 @@
 -- A step that is no worker's reads nothing of what workers run, and leaves it as it is.
-use Rattle.uv_workers.proofs.Names.{◌≡◌, List, false, Option, Some, refl, ap, ap₂, sym, ◌∙◌, Event, Take, Finish, Tick, Id, Var, Seen, Program, State, named, with_named, Next, Moves, Refuses, is_of_worker, map-id, Callback, Named, count_of, counted, Run, Running, Comes}
+use Rattle.uv_workers.proofs.Names.{◌≡◌, List, false, Option, Some, refl, ap, ap₂, sym, ◌∙◌, Event, Take, Finish, Tick, Id, Var, Seen, Program, State, named, with_named, Moves, is_of_worker, map-id, Callback, Named, count_of, counted, Run, Running, Comes}
+use Rattle.uv_alike.specs.Changed.{state_map}
 use Rattle.uv_model.specs.Next as steps
 use Rattle.uv_model.specs.Next.{next}
 use Rattle.uv_names.proofs.Changed.{as_is, changed, changed_run, Hides, named_changed, with_named_changed}
@@ -9,11 +10,6 @@ use Rattle.uv_names.proofs.Walk.{SeesAlike, by_named, event_alike}
 -- the state whose workers run these
 abbrev pub put : List (Option Id) → State → State
 put running s = record s { running = running }
-
--- the state after a step, whose workers run these
-abbrev pub put_next : List (Option Id) → Next → Next
-put_next running (Moves s line) = Moves (put running s) line
-put_next running (Refuses why) = Refuses why
 
 module _ (running : List (Option Id)) where
   -- ---- a change of what workers run alone
@@ -28,7 +24,7 @@ module _ (running : List (Option Id)) where
   left_put u = ap₂ (λ place names. record (put running u) { place = place; names = names }) (same_place u.place) (map-id u.names)
 
   call_alike : (p : Program) (u : State) (run : Run) (kind : Callback) (v : Var) (line : Seen) →
-      steps.calls p (left u) (changed_run as_is run) kind v line ≡ put_next running (steps.calls p u run kind v line)
+      steps.calls p (left u) (changed_run as_is run) kind v line ≡ state_map (put running) (steps.calls p u run kind v line)
   call_alike p u run kind v line =
       let y = named u v in
       let body = steps.body_from p kind v (count_of kind (counted kind y.calls)) 0 in
@@ -40,7 +36,7 @@ module _ (running : List (Option Id)) where
       ∙ ap (λ names. Moves (record (put running u) { place = Running (record run { body = body }); names = names }) (Some line))
       (map-id (with_named u v (record y { calls = counted kind y.calls })).names)
 
-  sees : (p : Program) → SeesAlike p as_is as_is these as_is (put_next running)
+  sees : (p : Program) → SeesAlike p as_is as_is these as_is (state_map (put running))
   sees p = record {
     refuses = λ why. refl;
     stays = λ u line. ap (λ t. Moves t line) (left_put u);
@@ -53,13 +49,13 @@ module _ (running : List (Option Id)) where
   hides : (s : State) → Hides as_is s
   hides s = record { unbound = refl; live = λ x. refl; fresh = λ id e x. refl }
 
-  left_same : (p : Program) (s : State) (e : Event) → is_of_worker e ≡ false → next p (left s) e ≡ put_next running (next p s e)
-  left_same p s e other = event_alike as_is as_is these p as_is (put_next running) (sees p) s (hides s) e (by e other) where
+  left_same : (p : Program) (s : State) (e : Event) → is_of_worker e ≡ false → next p (left s) e ≡ state_map (put running) (next p s e)
+  left_same p s e other = event_alike as_is as_is these p as_is (state_map (put running)) (sees p) s (hides s) e (by e other) where
     by : (e : Event) → is_of_worker e ≡ false → Comes (by_named as_is as_is these) s e
     by (Take k) other = absurd (let f : ⊥ = cc in f)
     by (Finish k) other = absurd (let f : ⊥ = cc in f)
     by (Tick ms) other = (refl, refl)
     by e other = tt
 
-  pub next_same : (p : Program) (s : State) (e : Event) → is_of_worker e ≡ false → next p (put running s) e ≡ put_next running (next p s e)
+  pub next_same : (p : Program) (s : State) (e : Event) → is_of_worker e ≡ false → next p (put running s) e ≡ state_map (put running) (next p s e)
   next_same p s e other = ap (λ u. next p u e) (sym (left_put s)) ∙ left_same p s e other

@@ -1,11 +1,12 @@
 -- Steps of states that are the same except for which worker runs which request.
-use Rattle.uv_workers.proofs.Names.{◌≡◌, ℕ, List, false, drop, Option, Some, None, Result, Ok, Err, refl, ap, sym, ◌∙◌, slice_get, slice_set, Id, Var, Event, Take, Finish, Seen, Program, State, request, with_id, Next, Moves, Refuses, is_of_worker, next_by, ordered, orderly, orderly_next, Why, IdleWorker, text_of, Finished, Request, found_or}
+use Rattle.uv_workers.proofs.Names.{◌≡◌, ℕ, List, false, drop, Option, Some, None, Result, Ok, Err, refl, ap, sym, ◌∙◌, slice_get, slice_set, Id, Var, Event, Take, Finish, Seen, Program, State, request, with_id, Next, Moves, Refuses, is_of_worker, next_by, ordered, orderly, Why, IdleWorker, text_of, Finished, Request, found_or}
+use Rattle.uv_alike.specs.Changed.{state_map}
 use Rattle.uv_ids.specs.declared.seen.Seen.TheVariants as seen
 use Rattle.uv_work.specs.Digests.{digest_of}
 use Rattle.uv_model.specs.Ops.{ended}
 use Rattle.uv_model.specs.Next as steps
 use Rattle.uv_model.specs.Next.{next}
-use Rattle.uv_workers.proofs.Frame.{put, put_next, next_same}
+use Rattle.uv_workers.proofs.Frame.{put, next_same}
 use Rattle.uv_workers.proofs.Runs.{ordered_again, set_alike}
 
 -- ---- two states that are the same with the workers' requests in order
@@ -19,18 +20,20 @@ whole s t same = ap (put t.running) same
 
 -- ---- the steps that are no worker's
 
-put_alike : (x : Next) (xs ys : List (Option Id)) → ordered xs ≡ ordered ys → orderly_next (put_next xs x) ≡ orderly_next (put_next ys x)
+put_alike : (x : Next) (xs ys : List (Option Id)) → ordered xs ≡ ordered ys →
+    state_map orderly (state_map (put xs) x) ≡ state_map orderly (state_map (put ys) x)
 put_alike (Moves s line) xs ys same = ap (λ running. Moves (put running s) line) same
 put_alike (Refuses why) xs ys same = refl
 
-pub others : (p : Program) (s : State) (e : Event) → is_of_worker e ≡ false → orderly_next (next p (orderly s) e) ≡ orderly_next (next p s e)
-others p s e other = ap orderly_next (next_same (ordered s.running) p s e other)
+pub others : (p : Program) (s : State) (e : Event) → is_of_worker e ≡ false →
+    state_map orderly (next p (orderly s) e) ≡ state_map orderly (next p s e)
+others p s e other = ap (state_map orderly) (next_same (ordered s.running) p s e other)
     ∙ put_alike (next p s e) (ordered s.running) s.running (ordered_again s.running)
-    ∙ ap orderly_next (sym (next_same s.running p s e other))
+    ∙ ap (state_map orderly) (sym (next_same s.running p s e other))
 
 pub others_alike : (p : Program) (s t : State) (e : Event) → is_of_worker e ≡ false → orderly s ≡ orderly t →
-    orderly_next (next p s e) ≡ orderly_next (next p t e)
-others_alike p s t e other same = sym (others p s e other) ∙ ap (λ u. orderly_next (next p u e)) same ∙ others p t e other
+    state_map orderly (next p s e) ≡ state_map orderly (next p t e)
+others_alike p s t e other same = sym (others p s e other) ∙ ap (λ u. state_map orderly (next p u e)) same ∙ others p t e other
 
 -- ---- a worker takes a request, or finishes its own
 
@@ -40,34 +43,36 @@ set_same : (s : State) (running : List (Option Id)) (k j : ℕ) (x y : Option Id
 set_same s running k j x y same at there = sym (set_alike s.running running k j x y same at there)
 
 take_with : (p : Program) (s : State) (running : List (Option Id)) (k j : ℕ) → ordered s.running ≡ ordered running →
-    slice_get s.running k ≡ slice_get running j → orderly_next (next p (put running s) (Take j)) ≡ orderly_next (next_by j (next p s (Take k)))
+    slice_get s.running k ≡ slice_get running j →
+    state_map orderly (next p (put running s) (Take j)) ≡ state_map orderly (next_by j (next p s (Take k)))
 unfolding next
 take_with p s running k j same here =
-    ap (λ o. orderly_next (steps.take (put running s) j (steps.next_work (put running s) o))) (sym here)
+    ap (λ o. state_map orderly (steps.take (put running s) j (steps.next_work (put running s) o))) (sym here)
     ∙ by (slice_get s.running k) refl (sym here)
   where
     takes : slice_get s.running k ≡ Some None → slice_get running j ≡ Some None → (t : Result (Id × Request) Why) →
-        orderly_next (steps.take (put running s) j t) ≡ orderly_next (next_by j (steps.take s k t))
+        state_map orderly (steps.take (put running s) j t) ≡ state_map orderly (next_by j (steps.take s k t))
     takes at there (Err why) = refl
     takes at there (Ok t) = ap (λ runs. Moves (record s { waiting = drop 1 s.waiting; running = runs }) (Some (seen.Take j t.1.name t.0)))
         (set_same s running k j None (Some t.0) same at there)
 
     by : (o : Option (Option Id)) → slice_get s.running k ≡ o → slice_get running j ≡ o →
-        orderly_next (steps.take (put running s) j (steps.next_work (put running s) o))
-        ≡ orderly_next (next_by j (steps.take s k (steps.next_work s o)))
+        state_map orderly (steps.take (put running s) j (steps.next_work (put running s) o))
+        ≡ state_map orderly (next_by j (steps.take s k (steps.next_work s o)))
     by None at there = refl
     by (Some (Some id)) at there = refl
     by (Some None) at there = simp takes
 
 finish_with : (p : Program) (s : State) (running : List (Option Id)) (k j : ℕ) → ordered s.running ≡ ordered running →
-    slice_get s.running k ≡ slice_get running j → orderly_next (next p (put running s) (Finish j)) ≡ orderly_next (next_by j (next p s (Finish k)))
+    slice_get s.running k ≡ slice_get running j →
+    state_map orderly (next p (put running s) (Finish j)) ≡ state_map orderly (next_by j (next p s (Finish k)))
 unfolding next
 finish_with p s running k j same here =
-    ap (λ o. orderly_next (steps.finish (put running s) j (steps.work_of (put running s) o))) (sym here)
+    ap (λ o. state_map orderly (steps.finish (put running s) j (steps.work_of (put running s) o))) (sym here)
     ∙ by (slice_get s.running k) refl (sym here)
   where
     finishes : (id : Id) → slice_get s.running k ≡ Some (Some id) → slice_get running j ≡ Some (Some id) → (t : Result (Id × Request) Why) →
-        orderly_next (steps.finish (put running s) j t) ≡ orderly_next (next_by j (steps.finish s k t))
+        state_map orderly (steps.finish (put running s) j t) ≡ state_map orderly (next_by j (steps.finish s k t))
     finishes id at there (Err why) = refl
     finishes id at there (Ok t) =
         let outcome = Finished (digest_of t.1.task.rounds (text_of t.1.task)) in
@@ -75,28 +80,28 @@ finish_with p s running k j same here =
         (set_same s running k j (Some id) None same at there)
 
     by : (o : Option (Option Id)) → slice_get s.running k ≡ o → slice_get running j ≡ o →
-        orderly_next (steps.finish (put running s) j (steps.work_of (put running s) o))
-        ≡ orderly_next (next_by j (steps.finish s k (steps.work_of s o)))
+        state_map orderly (steps.finish (put running s) j (steps.work_of (put running s) o))
+        ≡ state_map orderly (next_by j (steps.finish s k (steps.work_of s o)))
     by None at there = refl
     by (Some None) at there = refl
     by (Some (Some id)) at there = finishes id at there (found_or (with_id id (request s id)) Ok (Err IdleWorker))
 
 pub takes : (p : Program) (s : State) (k j : ℕ) → slice_get s.running k ≡ slice_get (orderly s).running j →
-    orderly_next (next p (orderly s) (Take j)) ≡ orderly_next (next_by j (next p s (Take k)))
+    state_map orderly (next p (orderly s) (Take j)) ≡ state_map orderly (next_by j (next p s (Take k)))
 takes p s k j here = take_with p s (ordered s.running) k j (sym (ordered_again s.running)) here
 
 pub takes_alike : (p : Program) (s t : State) (k j : ℕ) → orderly s ≡ orderly t → slice_get s.running k ≡ slice_get t.running j →
-    orderly_next (next p t (Take j)) ≡ orderly_next (next_by j (next p s (Take k)))
-takes_alike p s t k j same here = ap (λ u. orderly_next (next p u (Take j))) (sym (whole s t same))
+    state_map orderly (next p t (Take j)) ≡ state_map orderly (next_by j (next p s (Take k)))
+takes_alike p s t k j same here = ap (λ u. state_map orderly (next p u (Take j))) (sym (whole s t same))
     ∙ take_with p s t.running k j (runs_alike s t same) here
 
 pub finishes : (p : Program) (s : State) (k j : ℕ) → slice_get s.running k ≡ slice_get (orderly s).running j →
-    orderly_next (next p (orderly s) (Finish j)) ≡ orderly_next (next_by j (next p s (Finish k)))
+    state_map orderly (next p (orderly s) (Finish j)) ≡ state_map orderly (next_by j (next p s (Finish k)))
 finishes p s k j here = finish_with p s (ordered s.running) k j (sym (ordered_again s.running)) here
 
 pub finishes_alike : (p : Program) (s t : State) (k j : ℕ) → orderly s ≡ orderly t → slice_get s.running k ≡ slice_get t.running j →
-    orderly_next (next p t (Finish j)) ≡ orderly_next (next_by j (next p s (Finish k)))
-finishes_alike p s t k j same here = ap (λ u. orderly_next (next p u (Finish j))) (sym (whole s t same))
+    state_map orderly (next p t (Finish j)) ≡ state_map orderly (next_by j (next p s (Finish k)))
+finishes_alike p s t k j same here = ap (λ u. state_map orderly (next p u (Finish j))) (sym (whole s t same))
     ∙ finish_with p s t.running k j (runs_alike s t same) here
 
 -- ---- their lines

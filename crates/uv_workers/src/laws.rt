@@ -9,15 +9,17 @@ ghost use Rattle.uv_ids.specs.declared.seen.Seen.TheVariants as seen;
 ghost use Rattle.uv_script.specs.Program.{Program};
 ghost use Rattle.uv_model.specs.State.{State};
 ghost use Rattle.uv_model.specs.Next.{next, Moves};
-ghost use Rattle.uv_workers.specs.Workers.{is_of_worker, next_by, orderly, orderly_next};
+ghost use Rattle.uv_alike.specs.Changed.{state_map};
+ghost use Rattle.uv_workers.specs.Workers.{is_of_worker, next_by, orderly};
 
 /// A step that is no worker's goes as it does where the workers' requests are in order: with the same line, or the same refusal, to the
 /// same state with them in order. So two states that are the same with them in order go on alike. It does nothing, and is called for its
 /// clauses.
 pub fn others_alike()
-    ensures step { (p : Program) (s : State) (e : Event) → is_of_worker e ≡ false → orderly_next (next p (orderly s) e) ≡ orderly_next (next p s e) }
+    ensures step { (p : Program) (s : State) (e : Event) → is_of_worker e ≡ false
+        → state_map orderly (next p (orderly s) e) ≡ state_map orderly (next p s e) }
     ensures alike { (p : Program) (s t : State) (e : Event) → is_of_worker e ≡ false → orderly s ≡ orderly t
-        → orderly_next (next p s e) ≡ orderly_next (next p t e) }
+        → state_map orderly (next p s e) ≡ state_map orderly (next p t e) }
 {}
 
 /// Which of the idle workers takes a request, only the number in the line tells: each is refused for the same reason, or takes the same
@@ -26,9 +28,9 @@ pub fn others_alike()
 /// clauses.
 pub fn takes_alike()
     ensures step { (p : Program) (s : State) (k j : ℕ) → slice_get s.running k ≡ slice_get (orderly s).running j
-        → orderly_next (next p (orderly s) (Take j)) ≡ orderly_next (next_by j (next p s (Take k))) }
+        → state_map orderly (next p (orderly s) (Take j)) ≡ state_map orderly (next_by j (next p s (Take k))) }
     ensures alike { (p : Program) (s t : State) (k j : ℕ) → orderly s ≡ orderly t → slice_get s.running k ≡ slice_get t.running j
-        → orderly_next (next p t (Take j)) ≡ orderly_next (next_by j (next p s (Take k))) }
+        → state_map orderly (next p t (Take j)) ≡ state_map orderly (next_by j (next p s (Take k))) }
     ensures line { (p : Program) (s t : State) (k : ℕ) (line : Option Seen) → next p s (Take k) ≡ Moves t line
         → (v : Var) × (id : Id) × (line ≡ Some (seen.Take k v id)) }
 {}
@@ -37,9 +39,9 @@ pub fn takes_alike()
 /// order, or is refused for the same reason. It does nothing, and is called for its clauses.
 pub fn finishes_alike()
     ensures step { (p : Program) (s : State) (k j : ℕ) → slice_get s.running k ≡ slice_get (orderly s).running j
-        → orderly_next (next p (orderly s) (Finish j)) ≡ orderly_next (next_by j (next p s (Finish k))) }
+        → state_map orderly (next p (orderly s) (Finish j)) ≡ state_map orderly (next_by j (next p s (Finish k))) }
     ensures alike { (p : Program) (s t : State) (k j : ℕ) → orderly s ≡ orderly t → slice_get s.running k ≡ slice_get t.running j
-        → orderly_next (next p t (Finish j)) ≡ orderly_next (next_by j (next p s (Finish k))) }
+        → state_map orderly (next p t (Finish j)) ≡ state_map orderly (next_by j (next p s (Finish k))) }
     ensures line { (p : Program) (s t : State) (k : ℕ) (line : Option Seen) → next p s (Finish k) ≡ Moves t line
         → (v : Var) × (id : Id) × (line ≡ Some (seen.Finish k v id)) }
 {}

@@ -72,9 +72,7 @@ find_near-requires g c =
     record { more = found_more c.args.orders.now.rules c.args.orders.now.spot c.args.limit c.search.new.maze.spot f }
 
 pub returns-in-Unsettled-clause-found : goal.returns-in-Unsettled-clause-found
-returns-in-Unsettled-clause-found g c =
-    let back = rw c.in-Unsettled.is at c.search.ensures.made in
-    rw (c.search.ensures.rules, back.0) at c.find_near.ensures.found
+returns-in-Unsettled-clause-found g c = grind arith
 
 pub returns-in-TooDeep-clause-found : goal.returns-in-TooDeep-clause-found
 returns-in-TooDeep-clause-found g c =

@@ -1,5 +1,5 @@
-use Rattle.uv_find.proofs.Names.{◌≡◌, ◌∷◌, length, drop, subst, arith, some_left}
-use Rattle.uv_find.proofs.Results.{found_never, same_back}
+use Rattle.uv_find.proofs.Names.{◌∷◌, length, arith, some_left}
+use Rattle.uv_find.proofs.Results.{found_never}
 use Rattle.uv_find.proofs.latest.look.Goals as goal
 
 pub go_back-requires : goal.go_back-requires
@@ -10,16 +10,7 @@ go_back-requires g c =
     omega (arith, long, c.len.ensures)
 
 pub returns-in-Way-clause-back : goal.returns-in-Way-clause-back
-returns-in-Way-clause-back g c =
-    let p = c.args.orders.now.spot in
-    let back = rw c.in-Way.is at c.search.ensures.made in
-    let s = c.search.new.maze in
-    let u = c.go_back.new.maze in
-    let count : c.len.result ≡ length c.in-Way.field-0.way.items = omega (arith, c.len.ensures) in
-    let there : drop (length c.in-Way.field-0.way.items) (s.spot ∷ s.before) ≡ u.spot ∷ u.before =
-    subst (λ n. drop n (s.spot ∷ s.before) ≡ u.spot ∷ u.before) count c.go_back.ensures.before in
-    same_back p u.spot c.args.orders.now.before u.before
-    (drop (length c.in-Way.field-0.way.items) (s.spot ∷ s.before)) back there
+returns-in-Way-clause-back g c = grind arith
 
 pub returns-in-Never-clause-found : goal.returns-in-Never-clause-found
 returns-in-Never-clause-found g c =

@@ -1,4 +1,4 @@
-use Rattle.uv_state_key.proofs.Names.{◌≡◌, ap₂, ◌∙◌, arith, min, Due, after}
+use Rattle.uv_state_key.proofs.Names.{arith}
 use Rattle.uv_state_key.proofs.ComputedLemmas.{least_turn}
 use Rattle.uv_state_key.proofs.bases.least_among.Goals as goal
 

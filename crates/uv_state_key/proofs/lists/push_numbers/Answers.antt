@@ -1,4 +1,4 @@
-use Rattle.uv_state_key.proofs.Names.{◌++◌, ap, ◌∙◌, arith, number_code, each_turn, list_end}
+use Rattle.uv_state_key.proofs.Names.{arith, number_code, each_turn, list_end}
 use Rattle.uv_state_key.proofs.lists.push_numbers.Goals as goal
 
 pub loop-number-preserved : goal.loop-number-preserved

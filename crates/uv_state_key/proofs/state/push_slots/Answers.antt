@@ -1,4 +1,4 @@
-use Rattle.uv_state_key.proofs.Names.{◌≡◌, ◌+◌, ◌<◌, ◌≤◌, ◌++◌, suc, length, ap, ◌∙◌, arith, after, number_code, list_end, piece_turn, and_content, content_at, holds_in, id_at}
+use Rattle.uv_state_key.proofs.Names.{◌≡◌, ◌+◌, ◌<◌, ◌≤◌, ◌++◌, suc, length, ap, ◌∙◌, arith, after, number_code, list_end, piece_turn, holds_in}
 use Rattle.uv_state_key.specs.Key.{slot_code}
 use Rattle.uv_state_key.proofs.state.push_slots.Goals as goal
 

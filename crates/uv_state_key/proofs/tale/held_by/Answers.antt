@@ -1,4 +1,4 @@
-use Rattle.uv_state_key.proofs.Names.{◌≡◌, ◌+◌, ◌<◌, suc, length, ap, ◌∙◌, arith, after, and_content, content_at, holds_in, id_at}
+use Rattle.uv_state_key.proofs.Names.{◌≡◌, ◌+◌, ◌<◌, suc, length, ap, ◌∙◌, arith, after, holds_in}
 use Rattle.uv_state_key.proofs.tale.held_by.Goals as goal
 
 pub loop-number-preserved : goal.loop-number-preserved

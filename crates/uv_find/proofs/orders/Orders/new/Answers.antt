@@ -1,18 +1,10 @@
-use Rattle.uv_find.proofs.Names.{arith, ◌≡◌, ◌∙◌, ap, ap₂, length, subst, sym, after-nil, fresh, none_kept, first_left, AreBrief, MayForget, MayHold, rules_by, rules_of, asked_in}
-use Rattle.uv_model.specs.After.{after}
+use Rattle.uv_find.proofs.Names.{arith, ◌≡◌, ◌∙◌, ap, ap₂, length, subst, sym, after-nil, fresh, AreBrief, MayForget, MayHold, rules_by, rules_of, asked_in}
 use Rattle.uv_find.proofs.Forgets.{forgets}
 use Rattle.uv_find.proofs.Holds.{holds}
 use Rattle.uv_find.proofs.orders.Orders.new.Goals as goal
 
 pub returns-clause-spot : goal.returns-clause-spot
-returns-clause-spot g c =
-    let p = c.new.result.program in
-    let steps = c.new.ensures.standing in
-    let differ = c.in_ok-terms.terms.differ in
-    let left = c.in_ok-left.ensures ∙ ap₂ (first_left differ) c.deref.ensures.value c.deref-2.ensures.value in
-    let kept = c.none_kept-kept.ensures ∙ ap (λ es. none_kept es differ) c.deref-3.ensures.value in
-    let state : after p c.new.result.standing ≡ fresh p = ap (after p) steps ∙ after-nil p in
-    λ i. record { place = record { state = state i; left = left i; kept = kept i }; steps = steps i }
+returns-clause-spot g c = grind (arith, ap₂, fresh, after-nil)
 
 pub invariant_of-result : goal.invariant_of-result
 invariant_of-result g c =

@@ -1,10 +1,8 @@
--- The form of a state whose slots stand in the order of the names that are bound to them. Those that are free stand behind, as the free list
--- has them. States that have it in common differ in nothing but the numbers of their slots.
-use Rattle.std.specs.Prelude.{◌≡◌, ◌<◌, ◌++◌, ℕ, List, [], ◌∷◌, length, Option, Some, None, option_map, option_to_list, slice_get}
+-- What holds of each state that few steps lead to: each name is bound to its own, and just the empty slots are free.
+use Rattle.std.specs.Prelude.{◌≡◌, ◌<◌, ℕ, length, Option, Some, None, slice_get}
 use Rattle.uv_ids.specs.declared.id.Id.{Id}
 use Rattle.uv_ids.specs.declared.id.Var.{Var}
 use Rattle.uv_ids.specs.declared.seen.Site.{Site}
-use Rattle.uv_records.specs.declared.named.Named.{Named}
 use Rattle.uv_records.specs.declared.slot.Slot.{Slot}
 use Rattle.uv_records.specs.Slots.{held}
 use Rattle.uv_script.specs.Program.{Program, op_at, op_name}
@@ -12,26 +10,7 @@ use Rattle.uv_script.specs.declared.op.Op.{Op}
 use Rattle.uv_work.specs.declared.content.Content.{Content}
 use Rattle.uv_model.specs.State.{State, named}
 use Rattle.uv_alike.specs.Contents.{name_in}
-use Rattle.uv_slots.specs.Arranged.{times, arranged}
-
--- the slot of what a name is bound to, if it holds that still
-abbrev pub slot_bound : List (Slot Content) → Option Id → Option ℕ
-slot_bound slots None = None
-slot_bound slots (Some id) = option_map (λ (x : Content). id.slot) (held slots id)
-
--- those of these names, in their order
-abbrev pub slots_bound : List Named → List (Slot Content) → List ℕ
-slots_bound [] slots = []
-slots_bound (n ∷ ns) slots = option_to_list (slot_bound slots n.id) ++ slots_bound ns slots
-
--- the order of a state's slots by its names; those that are free stand behind
-abbrev pub named_order : State → List ℕ
-named_order s = slots_bound s.names s.arena.slots ++ s.arena.free
-
-abbrev pub named_form : State → State
-named_form s = arranged (named_order s) s
-
--- ---- what holds of each state that steps lead to
+use Rattle.uv_slots.specs.Arranged.{times}
 
 -- how often a number stands in the free list, by its slot: once if it is empty
 abbrev pub vacant : Option Content → ℕ
